@@ -8,9 +8,11 @@ ghost use Rattle.warning.specs.Notice.{outline};
 ghost use Rattle.warning.specs.Meaning.{lent, said};
 ghost use Rattle.warning.specs.Rules.{radio-of, carries-message, limit, judged, judged-security, judged-message, is-warning};
 ghost use Rattle.warning.specs.Refusals.{of-warning};
+
 pub mod network;
 pub mod numbers;
 pub mod owned;
+
 use numbers::*;
 
 // What tells warnings apart: the message identifier and the serial number.

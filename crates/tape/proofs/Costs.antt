@@ -1,0 +1,51 @@
+-- What a warning costs, and how long it is on tape.
+use mathlib.Core.Path.{_≡_, refl, sym, _∙_, ap}
+use mathlib.Core.Bool.{true, false, cond}
+use mathlib.Core.List.{List, [], _∷_, _++_}
+use Prim.Native.Nat.{ℕ, _+_, _-_, _≤_, _<_}
+use native.Mathlib.Omega.{arith}
+use lib.Dec.{ltb, eqb}
+use lib.ListN.{length, replicate}
+use Rattle.std.proofs.shelf.Lists.{length-append, length-replicate}
+use Rattle.std.proofs.shelf.Tests.{le-ltb, eqb-true}
+use Rattle.std.specs.declared.option.Option.{Option}
+use Rattle.std.specs.declared.option.Option.the-variants.{Some, None}
+use Rattle.std.specs.declared.result.Result.{Result}
+use Rattle.std.specs.declared.result.Result.the-variants.{Ok, Err}
+use Rattle.std.specs.Options.{mapped, valueOr}
+use Rattle.warning.specs.declared.Outline.{Outline}
+use Rattle.warning.specs.declared.WarningFault.{WarningFault}
+use Rattle.warning.specs.Notice.{Notice, primary, message, outline}
+use Rattle.warning.specs.Rules.{judged, is-warning}
+use Rattle.tape.specs.Format.{encode, pieces, octets-of, cost, message-head, part-cost}
+use Rattle.tape.specs.Writing.{cost-by, costed, write-by}
+use Rattle.tape.proofs.Pieces.{length-pieces}
+
+cost-by-cost : (j : Result (Unit {0}) WarningFault) (n m : ℕ) → Ok m ≡ cost-by j n → m ≡ n
+cost-by-cost (Ok x) n m e = cc
+cost-by-cost (Err f) n m e = let z : _≡_ {A = ℕ} 0 1 = cc in absurd (omega arith)
+
+-- the cost that is answered is the cost
+pub costed-cost : (o : Outline) (n : ℕ) → Ok n ≡ costed o → n ≡ cost o
+costed-cost o n e = cost-by-cost (judged o) (cost o) n e
+
+-- what is answered where the warning fits
+pub write-fits : (r : Result ℕ WarningFault) (n free at next : ℕ) → Ok n ≡ r → n ≤ free → next ≡ at + n → Ok next ≡ write-by r free at
+write-fits r n free at next e h k =
+    let room : ltb free n ≡ false = le-ltb _ _ h in
+    rw (sym e, room, k)
+
+pub length-octets-of : (area : Option (List ℕ)) → length (octets-of area) ≡ valueOr (mapped length area) 0
+length-octets-of None = refl
+length-octets-of (Some xs) = refl
+
+-- the octets that a warning takes are its cost
+pub length-encode : (n : Notice) → is-warning (outline n) ≡ true → length (encode n) ≡ cost (outline n)
+length-encode (primary pair warning-type None) h = refl
+length-encode (primary pair warning-type (Some xs)) h = let e = eqb-true (length xs) 50 h in omega arith
+length-encode (message block pair coding octets area) h =
+    let a = length-pieces octets in
+    let b = length-pieces (octets-of area) in
+    let c = length-append (pieces octets) (pieces (octets-of area)) in
+    let d = ap part-cost (length-octets-of area) in
+    omega arith

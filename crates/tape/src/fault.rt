@@ -1,0 +1,64 @@
+// Why a tape is not written or not read.
+ghost use mathlib.Core.Path.{_≡_};
+ghost use Rattle.tape.specs.declared.fault.WriteFault.the-variants.{NoWarning};
+ghost use Rattle.tape.specs.Refusals.{of-write, of-tape};
+use warning::Refusal;
+use warning::Values;
+use warning::WarningFault;
+use warning::WarningFaultDebug;
+
+// Why a warning was not written.
+#[derive(Clone, Copy, Debug)]
+pub enum WriteFault {
+    NoWarning(WarningFault),
+    // the octets that it takes, and those that the memory has left
+    Full { cost: usize, free: usize },
+}
+
+pub impl From<WarningFault> for WriteFault as WriteFaultFromWarning {
+    ghost converts = { λ f r. r ≡ NoWarning f };
+
+    fn from(f: WarningFault) -> WriteFault {
+        WriteFault::NoWarning(f)
+    }
+}
+
+// Why octets are no tape.
+#[derive(Clone, Copy, PartialEq, Eq, Debug)]
+pub enum TapeFault {
+    // an octet that no tape can have there: the place of its operand
+    Unknown { offset: usize },
+    // the input's end inside a warning: the input's length
+    Ended { offset: usize },
+}
+
+impl WriteFault {
+    pub fn refusal(self) -> Refusal
+        ensures { λ r. ⌜ r ≡ of-write self ⌝ }
+    {
+        match self {
+            WriteFault::NoWarning(fault) => fault.refusal(),
+            WriteFault::Full { cost, free } => Refusal {
+                number: 12,
+                values: Values::Two(cost, free),
+            },
+        }
+    }
+}
+
+impl TapeFault {
+    pub fn refusal(self) -> Refusal
+        ensures { λ r. ⌜ r ≡ of-tape self ⌝ }
+    {
+        match self {
+            TapeFault::Unknown { offset } => Refusal {
+                number: 18,
+                values: Values::One(offset),
+            },
+            TapeFault::Ended { offset } => Refusal {
+                number: 19,
+                values: Values::One(offset),
+            },
+        }
+    }
+}
