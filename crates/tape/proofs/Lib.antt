@@ -1,2 +1,4 @@
 pub mod Pieces
 pub mod Costs
+pub mod Operands
+pub mod Entries

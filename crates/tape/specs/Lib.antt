@@ -2,3 +2,4 @@ pub mod Numbers
 pub mod Format
 pub mod Refusals
 pub mod Writing
+pub mod Reading

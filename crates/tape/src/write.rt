@@ -12,6 +12,7 @@ ghost use Rattle.warning.specs.Notice.{outline, primary};
 ghost use Rattle.warning.specs.Rules.{is-warning};
 ghost use Rattle.tape.specs.Format.{encode, piece, pieces, part-cost, pair-octets, primary-head, area-head, message-head, security-part, octets-of};
 ghost use Rattle.tape.specs.Writing.{costed, write-outcome};
+ghost use Rattle.tape.specs.Reading.{read-tape};
 use crate::fault::*;
 use crate::numbers::*;
 use octets::put;
