@@ -26,6 +26,10 @@ pub then-ok : {X Y : Type 0} (r : Read X) (f : X → Place → Read Y) (y : Y) (
 then-ok (Ok r) f y q e = (r .0, r .1, refl, e)
 then-ok (Err g) f y q e = let z : _≡_ {A = ℕ} 0 1 = cc in absurd (omega arith)
 
+-- the same, for a chain of many: what follows for each value and place
+pub then-elim : {X Y C : Type 0} (r : Read X) (f : X → Place → Read Y) (y : Y) (q : Place) → then r f ≡ Ok (y, q) → ((x : X) (p : Place) → r ≡ Ok (x, p) → f x p ≡ Ok (y, q) → C) → C
+then-elim r f y q e k = let s = then-ok r f y q e in k (s .0) (s .1) (s .2) (s .3)
+
 pub then-is : {X Y : Type 0} (r : Read X) (f : X → Place → Read Y) (x : X) (p : Place) → r ≡ Ok (x, p) → then r f ≡ f x p
 then-is r f x p e = rw e
 

@@ -3,3 +3,4 @@ pub mod Format
 pub mod Refusals
 pub mod Writing
 pub mod Reading
+pub mod Promises
