@@ -23,7 +23,7 @@ use Rattle.tape.specs.Format.{piece, pieces, pieces-by, commands-for, pair-oct
 use Rattle.tape.specs.Reading.{Place, place, Read, then, operand, octet, number, number-to, pair-operands, all-zero, present, primary-operands, data-operands, data-by, part, most-flag, most-area, message-operands, by-command, entry}
 use Rattle.tape.proofs.Pieces.{commands-more, length-piece, length-pieces}
 use Rattle.tape.proofs.Costs.{length-encode}
-use Rattle.tape.proofs.Operands.{Took, then-ok, then-elim, then-is, ok-parts, took-both, took-same, operand-ok, operand-at, octet-ok, octet-at, number-ok, number-at, number-to-ok, number-to-at, pair-ok, pair-at, zeros, zeros-pass, data-ok, data-at}
+use Rattle.tape.proofs.Takes.{Took, then-ok, then-elim, then-is, ok-parts, took-both, took-same, operand-ok, operand-at, octet-ok, octet-at, number-ok, number-at, number-to-ok, number-to-at, pair-ok, pair-at, zeros, zeros-pass, data-ok, data-at}
 
 -- a part of a list that is cut into its first octets and the others
 cut-front : (xs ys : List ℕ) → (length xs ≡ 32) ⊎ (length xs ≤ 32) × (ys ≡ []) → (take 32 (xs ++ ys) ≡ xs) × (drop 32 (xs ++ ys) ≡ ys)

@@ -1,5 +1,6 @@
 pub mod Pieces
 pub mod Costs
-pub mod Operands
+pub mod Takes
 pub mod Entries
 pub mod Tapes
+pub mod Splits

@@ -17,7 +17,7 @@ use Rattle.tape.specs.declared.fault.TapeFault.{TapeFault}
 use Rattle.tape.specs.Format.{encode, encode-all}
 use Rattle.tape.specs.Reading.{Place, place, Read, entry, prepended, followed, entries, read-tape}
 use Rattle.tape.specs.Promises.{all-warnings, Reads-what-was-written, Writes-what-was-read}
-use Rattle.tape.proofs.Operands.{Took}
+use Rattle.tape.proofs.Takes.{Took}
 use Rattle.tape.proofs.Entries.{entry-ok, entry-at}
 
 -- no warning takes no octets

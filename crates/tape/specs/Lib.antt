@@ -3,4 +3,5 @@ pub mod Format
 pub mod Refusals
 pub mod Writing
 pub mod Reading
+pub mod Cursors
 pub mod Promises

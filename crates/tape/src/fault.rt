@@ -1,7 +1,10 @@
 // Why a tape is not written or not read.
 ghost use mathlib.Core.Path.{_≡_};
 ghost use Rattle.tape.specs.declared.fault.WriteFault.the-variants.{NoWarning};
+ghost use Rattle.tape.specs.declared.fault.ReadError.the-variants.{Fault, Memory};
 ghost use Rattle.tape.specs.Refusals.{of-write, of-tape};
+use std::alloc::AllocError;
+use std::alloc::Refused;
 use warning::Refusal;
 use warning::Values;
 use warning::WarningFault;
@@ -60,5 +63,36 @@ impl TapeFault {
                 values: Values::One(offset),
             },
         }
+    }
+}
+
+// Why a tape was not read: it is none, or memory was wanting.
+#[derive(Clone, Copy, PartialEq, Eq, Debug)]
+pub enum ReadError {
+    Fault(TapeFault),
+    Memory,
+}
+
+pub impl From<TapeFault> for ReadError as ReadErrorFromTape {
+    ghost converts = { λ f r. r ≡ Fault f };
+
+    fn from(f: TapeFault) -> ReadError {
+        ReadError::Fault(f)
+    }
+}
+
+pub impl From<AllocError> for ReadError as ReadErrorFromAlloc {
+    ghost converts = { λ _ r. r ≡ Memory };
+
+    fn from(_e: AllocError) -> ReadError {
+        ReadError::Memory
+    }
+}
+
+pub impl<T: Drop> From<Refused<T>> for ReadError as ReadErrorFromRefused {
+    ghost converts = { λ _ r. r ≡ Memory };
+
+    fn from(_e: Refused<T>) -> ReadError {
+        ReadError::Memory
     }
 }
