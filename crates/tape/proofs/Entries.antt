@@ -20,7 +20,7 @@ use Rattle.warning.specs.Rules.{carries-message, without-area, limit, total, is
 use Rattle.tape.specs.declared.fault.TapeFault.{TapeFault}
 use Rattle.tape.specs.declared.fault.TapeFault.the-variants.{Unknown}
 use Rattle.tape.specs.Format.{piece, pieces, pieces-by, commands-for, pair-octets, security-part, area-head, flag-of, octets-of, encode, cost}
-use Rattle.tape.specs.Reading.{Place, place, Read, then, operand, octet, number, number-to, pair-operands, all-zero, present, primary-operands, data-operands, data-by, part, most-flag, most-area, message-operands, by-command, entry}
+use Rattle.tape.specs.Reading.{Place, place, Read, then, operand, octet, number, number-to, pair-operands, all-zero, present, security-operand, primary-operands, data-operands, data-by, part, most-flag, most-area, message-operands, by-command, entry}
 use Rattle.tape.proofs.Pieces.{commands-more, length-piece, length-pieces}
 use Rattle.tape.proofs.Costs.{length-encode}
 use Rattle.tape.proofs.Takes.{Took, then-ok, then-elim, then-is, ok-parts, took-both, took-same, operand-ok, operand-at, octet-ok, octet-at, number-ok, number-at, number-to-ok, number-to-at, pair-ok, pair-at, zeros, zeros-pass, data-ok, data-at}
@@ -124,11 +124,14 @@ primary-ok p w q e =
     then-elim (pair-operands p) _ w q e (λ pair p₁ e₁ k₁.
     then-elim (number p₁) _ w q k₁ (λ t p₂ e₂ k₂.
     then-elim (octet (λ flag. leb flag 1) p₂) _ w q k₂ (λ flag p₃ e₃ k₃.
-    then-elim (operand 50 (λ xs. cond (eqb flag 0) (all-zero xs) true) p₃) _ w q k₃ (λ xs p₄ e₄ k₄.
-    primary-made pair t flag xs w p p₁ p₂ p₃ p₄ q
+    then-elim (security-operand flag p₃) _ w q k₃ (λ security p₄ e₄ k₄.
+    then-elim (operand 50 (λ xs. cond (eqb flag 0) (all-zero xs) true) p₃) _ security p₄ e₄ (λ xs p₅ e₅ k₅.
+    let is = ok-parts (present flag xs) security p₅ p₄ k₅ in
+    let made = ok-parts (primary pair t security) w p₄ q k₄ in
+    primary-made pair t flag xs w p p₁ p₂ p₃ p₅ q
     (pair-ok p pair p₁ e₁) (number-ok p₁ t p₂ e₂) (octet-ok (λ flag. leb flag 1) p₂ flag p₃ e₃)
-    (operand-ok 50 (λ ys. cond (eqb flag 0) (all-zero ys) true) p₃ xs p₄ e₄)
-    (ok-parts (primary pair t (present flag xs)) w p₄ q k₄)))))
+    (operand-ok 50 (λ ys. cond (eqb flag 0) (all-zero ys) true) p₃ xs p₅ e₅)
+    (ap (primary pair t) (is .0) ∙ made .0, is .1 ∙ made .1))))))
 
 right-flag : (security : Option (List ℕ)) → leb (flag-of security) 1 ≡ true
 right-flag None = refl
@@ -155,8 +158,9 @@ primary-at at pair warning-type security rest h =
     ∙ then-is _ _ pair (place (at + 4) (two warning-type ++ t₁)) (pair-at at pair (two warning-type ++ t₁))
     ∙ then-is _ _ warning-type (place (at + 4 + 2) t₁) (number-at (at + 4) warning-type t₁)
     ∙ then-is _ _ flag (place (at + 4 + 2 + 1) (xs ++ rest)) (octet-at (λ f. leb f 1) (at + 4 + 2) flag (xs ++ rest) (right-flag security))
-    ∙ then-is _ _ xs (place (at + 4 + 2 + 1 + 50) rest) (operand-at 50 (λ ys. cond (eqb flag 0) (all-zero ys) true) (at + 4 + 2 + 1) xs rest (s .0) (s .1))
-    ∙ ap (λ z. Ok (primary pair warning-type z, place (at + 4 + 2 + 1 + 50) rest)) (s .2)
+    ∙ then-is _ _ security (place (at + 4 + 2 + 1 + 50) rest)
+      (then-is _ _ xs (place (at + 4 + 2 + 1 + 50) rest) (operand-at 50 (λ ys. cond (eqb flag 0) (all-zero ys) true) (at + 4 + 2 + 1) xs rest (s .0) (s .1))
+        ∙ ap (λ z. Ok (z, place (at + 4 + 2 + 1 + 50) rest)) (s .2))
     ∙ ap (λ z. Ok (primary pair warning-type security, place z rest)) moved
 
 flag-allowed : (b : Bool) → 1 ≤ cond b 0 1 → b ≡ false

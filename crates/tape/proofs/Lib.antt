@@ -4,3 +4,4 @@ pub mod Takes
 pub mod Entries
 pub mod Tapes
 pub mod Splits
+pub mod Gathers

@@ -76,14 +76,19 @@ all-zero (x ∷ xs) = eqb x 0 && all-zero xs
 abbrev pub present : {X : Type 0} → ℕ → X → Option X
 present flag x = cond (eqb flag 0) None (Some x)
 
--- the operands of a primary: security information is zeros where its flag is 0
+-- security information, which is zeros where its flag is 0
+abbrev pub security-operand : ℕ → Place → Read (Option (List ℕ))
+security-operand flag p =
+    then (operand security-octets (λ xs. cond (eqb flag 0) (all-zero xs) true) p) (λ xs q. Ok (present flag xs, q))
+
+-- the operands of a primary
 unfoldable pub primary-operands : Place → Read Notice
 primary-operands p =
     then (pair-operands p) (λ pair p.
     then (number p) (λ warning-type p.
     then (octet (λ flag. leb flag 1) p) (λ flag p.
-    then (operand security-octets (λ xs. cond (eqb flag 0) (all-zero xs) true) p) (λ security p.
-    Ok (primary pair warning-type (present flag security), p)))))
+    then (security-operand flag p) (λ security p.
+    Ok (primary pair warning-type security, p)))))
 
 -- a data command of which the count is known
 unfoldable pub data-operands : ℕ → Place → Read (List ℕ)
@@ -112,18 +117,28 @@ most-flag block = cond (without-area block) 0 1
 abbrev pub most-area : ℕ → ℕ → ℕ → ℕ
 most-area block octets flag = cond (eqb flag 0) 0 (limit block - octets)
 
+-- the data of a message whose operands are known
+abbrev pub message-data : ℕ → Pair → ℕ → ℕ → ℕ → ℕ → Place → Read Notice
+message-data block pair coding octets flag area p =
+    then (part octets p) (λ message-octets p.
+    then (part area p) (λ area-octets p.
+    Ok (message block pair coding message-octets (present flag area-octets), p)))
+
+-- the lengths of a message, and its data
+abbrev pub message-lengths : ℕ → Pair → ℕ → Place → Read Notice
+message-lengths block pair coding p =
+    then (number-to (limit block) p) (λ octets p.
+    then (octet (λ flag. leb flag (most-flag block)) p) (λ flag p.
+    then (number-to (most-area block octets flag) p) (λ area p.
+    message-data block pair coding octets flag area p)))
+
 -- the operands of a message, and its data
 unfoldable pub message-operands : Place → Read Notice
 message-operands p =
     then (octet carries-message p) (λ block p.
     then (pair-operands p) (λ pair p.
     then (octet (λ coding. true) p) (λ coding p.
-    then (number-to (limit block) p) (λ octets p.
-    then (octet (λ flag. leb flag (most-flag block)) p) (λ flag p.
-    then (number-to (most-area block octets flag) p) (λ area p.
-    then (part octets p) (λ message-octets p.
-    then (part area p) (λ area-octets p.
-    Ok (message block pair coding message-octets (present flag area-octets), p)))))))))
+    message-lengths block pair coding p)))
 
 -- the operands that belong to a command
 abbrev pub by-command : ℕ → ℕ → Place → Read Notice

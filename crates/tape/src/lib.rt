@@ -3,4 +3,5 @@ mod cursor;
 pub mod fault;
 pub mod numbers;
 mod operands;
+pub mod read;
 pub mod write;
