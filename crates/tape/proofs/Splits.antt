@@ -20,7 +20,7 @@ use Rattle.tape.specs.declared.cursor.Cursor.{Cursor}
 use Rattle.tape.specs.declared.fault.ReadError.{ReadError}
 use Rattle.tape.specs.declared.fault.ReadError.the-variants.{Fault, Memory}
 use Rattle.tape.specs.Cursors.{Agrees}
-use Rattle.tape.specs.Reading.{Place, place, Read, then, operand, first-is, octet, of-number, number, number-to, all-zero, security-operand}
+use Rattle.tape.specs.Reading.{Place, place, Read, then, operand, first-is, octet, of-number, number, number-to, all-zero, security-operand, primary-operands, message-operands, by-command, entry}
 use Rattle.tape.proofs.Takes.{then-is}
 
 pub operand-wrong : (w : ℕ) (begins : List ℕ → Bool) (at : ℕ) (t : List ℕ) → begins (take w t) ≡ false → operand w begins (place at t) ≡ Err (Unknown at)
@@ -233,3 +233,25 @@ security-octets-are flag p h =
     let none : drop 50 (take 50 (p .rest)) ≡ [] = drop-all 50 (take 50 (p .rest)) (omega arith) in
     let passes : all-zero (drop 50 (take 50 (p .rest))) ≡ true = ap all-zero none in
     rw other (ap (λ r. then r (λ xs q. Ok (Some xs, q))) (operand-same 50 (λ xs. true) (λ xs. all-zero (drop 50 xs)) p (sym passes)))
+
+-- a warning by its command octet, as a slice's pattern finds it
+pub entry-none : (at : ℕ) (t : List ℕ) → length t < 1 → entry (place at t) ≡ Err (Ended at)
+unfolding entry
+entry-none at [] h = let e : at + 0 ≡ at = omega arith in then-err _ _ _ (octet-none (λ c. true) at [] h) ∙ ap (λ z. Err (Ended z)) e
+entry-none at (x ∷ t) h = absurd (omega arith)
+
+entry-first : (at : ℕ) (t : List ℕ) → 1 ≤ length t → entry (place at t) ≡ by-command (getD t 0 0) at (place (at + 1) (take (length t - 1) (drop 1 t)))
+unfolding entry
+entry-first at t h = then-is _ _ _ _ (octet-first at t h)
+
+pub entry-primary : (at : ℕ) (t : List ℕ) → 1 ≤ length t → getD t 0 0 ≡ 0x50 → entry (place at t) ≡ primary-operands (place (at + 1) (take (length t - 1) (drop 1 t)))
+entry-primary at t h e = entry-first at t h ∙ rw e
+
+pub entry-message : (at : ℕ) (t : List ℕ) → 1 ≤ length t → getD t 0 0 ≡ 0x4D → entry (place at t) ≡ message-operands (place (at + 1) (take (length t - 1) (drop 1 t)))
+entry-message at t h e = entry-first at t h ∙ rw e
+
+pub entry-unknown : (at : ℕ) (t : List ℕ) → 1 ≤ length t → (getD t 0 0 ≡ 0x50 → ⊥) → (getD t 0 0 ≡ 0x4D → ⊥) → entry (place at t) ≡ Err (Unknown at)
+entry-unknown at t h j k =
+    let a : eqb (getD t 0 0) 0x50 ≡ false = ne-eqb _ _ j in
+    let b : eqb (getD t 0 0) 0x4D ≡ false = ne-eqb _ _ k in
+    entry-first at t h ∙ rw (a, b)

@@ -6,7 +6,7 @@ ghost use Rattle.std.specs.Of.Vec.{vec-items};
 ghost use Rattle.std.specs.Vec.{made};
 ghost use Rattle.warning.specs.Owned.{kept, owned};
 ghost use Rattle.tape.specs.Cursors.{stands, Agrees, Within};
-ghost use Rattle.tape.specs.Reading.{part, security-operand, primary-operands, message-data, message-lengths, message-operands, entry};
+ghost use Rattle.tape.specs.Reading.{part, present, security-operand, primary-operands, most-flag, most-area, message-data, message-lengths, message-operands, entry};
 use crate::cursor::Cursor;
 use crate::fault::*;
 use crate::numbers::*;
@@ -68,3 +68,113 @@ fn primary(heap: Global, input: Cursor<'_>) -> Result<(WarningBuf, Cursor<'_>), 
     Ok((warning, rest))
 }
 
+
+// The operands of a message.
+#[derive(Clone, Copy)]
+struct MessageHead {
+    block: u8,
+    pair: Pair,
+    coding: u8,
+    message: usize,
+    flag: u8,
+    area: usize,
+}
+
+// An area, if its flag says that there is one.
+fn flagged(flag: u8, octets: Vec<u8>) -> Option<Vec<u8>>
+    ensures { λ r. ⌜ kept r ≡ present flag (vec-items octets) ⌝ }
+{
+    if flag == 0 { None } else { Some(octets) }
+}
+
+// The octets of a message, in its data commands.
+fn message_data(
+    heap: Global,
+    head: MessageHead,
+    input: Cursor<'_>,
+) -> Result<(WarningBuf, Cursor<'_>), ReadError>
+    requires { ⌜ Within input ⌝ }
+    ensures value { λ r. ⌜ Agrees owned (message-data (head .block) (head .pair) (head .coding) (head .message) (head .flag) (head .area) (stands (input .entry))) r ⌝ }
+    ensures within { λ r. ⌜ made r (λ x. Within (x .1)) ⌝ }
+{
+    let (message, rest) = part(heap, input, head.message)?;
+    let (octets, rest) = part(heap, rest, head.area)?;
+    let warning = WarningBuf::Message {
+        block: head.block,
+        pair: head.pair,
+        coding: head.coding,
+        message,
+        area: flagged(head.flag, octets),
+    };
+    Ok((warning, rest))
+}
+
+// The largest area flag of a block.
+fn most_flag(block: u8) -> u8
+    ensures { λ r. ⌜ r ≡ most-flag block ⌝ }
+{
+    if block == ETWS_SECONDARY { 0 } else { 1 }
+}
+
+// The largest area length.
+fn most_area(block: u8, message: usize, flag: u8) -> usize
+    ensures { λ r. ⌜ r ≡ most-area block message flag ⌝ }
+{
+    if flag == 0 {
+        0
+    } else {
+        octet_limit(block).saturating_sub(message)
+    }
+}
+
+// The lengths of a message, and what follows them.
+fn message_lengths(
+    heap: Global,
+    block: u8,
+    pair: Pair,
+    coding: u8,
+    input: Cursor<'_>,
+) -> Result<(WarningBuf, Cursor<'_>), ReadError>
+    requires { ⌜ Within input ⌝ }
+    ensures value { λ r. ⌜ Agrees owned (message-lengths block pair coding (stands (input .entry))) r ⌝ }
+    ensures within { λ r. ⌜ made r (λ x. Within (x .1)) ⌝ }
+{
+    let (message, rest) = number_to(input, octet_limit(block))?;
+    let (flag, rest) = flag(rest, most_flag(block))?;
+    let (area, rest) = number_to(rest, most_area(block, message, flag))?;
+    let head = MessageHead {
+        block,
+        pair,
+        coding,
+        message,
+        flag,
+        area,
+    };
+    message_data(heap, head, rest)
+}
+
+// The operands of a message, and its data.
+fn message(heap: Global, input: Cursor<'_>) -> Result<(WarningBuf, Cursor<'_>), ReadError>
+    requires { ⌜ Within input ⌝ }
+    ensures value { λ r. ⌜ Agrees owned (message-operands (stands (input .entry))) r ⌝ }
+    ensures within { λ r. ⌜ made r (λ x. Within (x .1)) ⌝ }
+{
+    let (block, rest) = block(input)?;
+    let (pair, rest) = pair(rest)?;
+    let (coding, rest) = any_octet(rest)?;
+    message_lengths(heap, block, pair, coding, rest)
+}
+
+// One warning: its command octet tells which operands follow.
+fn entry(heap: Global, input: Cursor<'_>) -> Result<(WarningBuf, Cursor<'_>), ReadError>
+    requires { ⌜ Within input ⌝ }
+    ensures value { λ r. ⌜ Agrees owned (entry (stands (input .entry))) r ⌝ }
+    ensures within { λ r. ⌜ made r (λ x. Within (x .1)) ⌝ }
+{
+    match input.rest {
+        [PRIMARY, operands @ ..] => primary(heap, Cursor { at: input.at + 1, rest: operands }),
+        [MESSAGE, operands @ ..] => message(heap, Cursor { at: input.at + 1, rest: operands }),
+        [_, ..] => Err(ReadError::Fault(TapeFault::Unknown { offset: input.at })),
+        [] => Err(ReadError::Fault(TapeFault::Ended { offset: input.at })),
+    }
+}
