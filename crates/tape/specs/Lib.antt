@@ -5,3 +5,4 @@ pub mod Writing
 pub mod Reading
 pub mod Cursors
 pub mod Promises
+pub mod Readers

@@ -3,5 +3,7 @@ mod cursor;
 pub mod fault;
 pub mod numbers;
 mod operands;
-pub mod read;
+mod read;
+pub mod reader;
+pub mod tapes;
 pub mod write;

@@ -166,7 +166,7 @@ fn message(heap: Global, input: Cursor<'_>) -> Result<(WarningBuf, Cursor<'_>), 
 }
 
 // One warning: its command octet tells which operands follow.
-fn entry(heap: Global, input: Cursor<'_>) -> Result<(WarningBuf, Cursor<'_>), ReadError>
+pub fn entry(heap: Global, input: Cursor<'_>) -> Result<(WarningBuf, Cursor<'_>), ReadError>
     requires { ⌜ Within input ⌝ }
     ensures value { λ r. ⌜ Agrees owned (entry (stands (input .entry))) r ⌝ }
     ensures within { λ r. ⌜ made r (λ x. Within (x .1)) ⌝ }
