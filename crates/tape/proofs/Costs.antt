@@ -1,12 +1,12 @@
 -- What a warning costs, and how long it is on tape.
 use mathlib.Core.Path.{_≡_, refl, sym, _∙_, ap}
-use mathlib.Core.Bool.{true, false, cond}
+use mathlib.Core.Bool.{Bool, true, false, cond}
 use mathlib.Core.List.{List, [], _∷_, _++_}
 use Prim.Native.Nat.{ℕ, _+_, _-_, _≤_, _<_}
 use native.Mathlib.Omega.{arith}
 use lib.Dec.{ltb, eqb}
-use lib.ListN.{length, replicate}
-use Rattle.std.proofs.shelf.Lists.{length-append, length-replicate}
+use lib.ListN.{length, take, replicate}
+use Rattle.std.proofs.shelf.Lists.{length-append, length-replicate, take-at}
 use Rattle.std.proofs.shelf.Tests.{le-ltb, eqb-true}
 use Rattle.std.specs.declared.option.Option.{Option}
 use Rattle.std.specs.declared.option.Option.the-variants.{Some, None}
@@ -15,10 +15,14 @@ use Rattle.std.specs.declared.result.Result.the-variants.{Ok, Err}
 use Rattle.std.specs.Options.{mapped, valueOr}
 use Rattle.warning.specs.declared.Outline.{Outline}
 use Rattle.warning.specs.declared.WarningFault.{WarningFault}
+use Rattle.warning.proofs.Judging.{judged-right}
+use Rattle.octets.specs.Octets.{written}
+use Rattle.tape.specs.declared.fault.WriteFault.{WriteFault}
+use Rattle.tape.specs.declared.fault.WriteFault.the-variants.{Full}
 use Rattle.warning.specs.Notice.{Notice, primary, message, outline}
 use Rattle.warning.specs.Rules.{judged, is-warning}
 use Rattle.tape.specs.Format.{encode, pieces, octets-of, cost, message-head, part-cost}
-use Rattle.tape.specs.Writing.{cost-by, costed, write-by}
+use Rattle.tape.specs.Writing.{cost-by, costed, write-by, write-outcome}
 use Rattle.tape.proofs.Pieces.{length-pieces}
 
 cost-by-cost : (j : Result (Unit {0}) WarningFault) (n m : ℕ) → Ok m ≡ cost-by j n → m ≡ n
@@ -49,3 +53,19 @@ length-encode (message block pair coding octets area) h =
     let c = length-append (pieces octets) (pieces (octets-of area)) in
     let d = ap part-cost (length-octets-of area) in
     omega arith
+
+in-room : (b : Bool) (end n : ℕ) (f : WriteFault) → Ok end ≡ cond b (Err f) (Ok n) → end ≡ n
+in-room true end n f k = let z : _≡_ {A = ℕ} 0 1 = cc in absurd (omega arith)
+in-room false end n f k = cc
+
+cost-by-ok : (j : Result (Unit {0}) WarningFault) (n free at end : ℕ) → Ok end ≡ write-by (cost-by j n) free at → (j ≡ Ok tt) × (end ≡ at + n)
+cost-by-ok (Ok tt) n free at end e = (refl, in-room (ltb free n) end (at + n) (Full n free) e)
+cost-by-ok (Err f) n free at end e = let z : _≡_ {A = ℕ} 0 1 = cc in absurd (omega arith)
+
+-- a warning that was written at the start of memory is what stands there
+pub written-whole : (w : Notice) (m m₁ : List ℕ) (free end : ℕ) → Ok end ≡ write-outcome (outline w) free 0 → m₁ ≡ written 0 (encode w) m → (judged (outline w) ≡ Ok tt) × (take (end - 0) m₁ ≡ encode w)
+written-whole w m m₁ free end e k =
+    let ok = cost-by-ok (judged (outline w)) (cost (outline w)) free 0 end e in
+    let long = length-encode w (judged-right (outline w) (ok .0)) in
+    let size : length (encode w) ≡ end - 0 = omega (arith, ok .1) in
+    (ok .0, ap (take (end - 0)) k ∙ take-at (encode w) _ (end - 0) size)

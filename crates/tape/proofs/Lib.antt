@@ -6,3 +6,5 @@ pub mod Whole
 pub mod Splits
 pub mod Gathers
 pub mod Steps
+pub mod Lists
+pub mod Ends

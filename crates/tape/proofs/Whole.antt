@@ -21,7 +21,7 @@ use Rattle.tape.proofs.Takes.{Took}
 use Rattle.tape.proofs.Entries.{entry-ok, entry-at}
 
 -- no warning takes no octets
-some-octets : (w : Notice) → 0 < length (encode w)
+pub some-octets : (w : Notice) → 0 < length (encode w)
 some-octets (primary pair warning-type security) = omega arith
 some-octets (message block pair coding octets area) = omega arith
 

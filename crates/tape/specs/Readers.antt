@@ -8,9 +8,13 @@ use Rattle.std.specs.declared.option.Option.{Option}
 use Rattle.std.specs.declared.option.Option.the-variants.{Some, None}
 use Rattle.std.specs.declared.result.Result.{Result}
 use Rattle.std.specs.declared.result.Result.the-variants.{Ok, Err}
+use Rattle.std.specs.declared.alloc.Global.{Global}
+use Rattle.std.specs.declared.vec.Vec.{Vec}
+use Rattle.warning.specs.declared.owned.WarningBuf.{WarningBuf}
 use Rattle.warning.specs.Notice.{Notice}
 use Rattle.warning.specs.Owned.{owned}
 use Rattle.tape.specs.declared.reader.TapeReader.{TapeReader}
+use Rattle.tape.specs.declared.fault.TapeFault.{TapeFault}
 use Rattle.tape.specs.declared.fault.ReadError.{ReadError}
 use Rattle.tape.specs.declared.fault.ReadError.the-variants.{Fault, Memory}
 use Rattle.tape.specs.Reading.{Place, place, entry}
@@ -33,3 +37,9 @@ Next p ws q vs (Ok (Some offset)) = (offset ≡ p .at) × ((w : Notice) × (entr
 Next p ws q vs (Ok None) = (length (p .rest) ≡ 0) × (q ≡ p) × (vs ≡ ws)
 Next p ws q vs (Err (Fault f)) = (0 < length (p .rest)) × (entry p ≡ Err f) × (q ≡ p) × (vs ≡ ws)
 Next p ws q vs (Err Memory) = (q ≡ p) × (vs ≡ ws)
+
+-- a whole tape in memory of its own; where that is wanting, nothing is said
+abbrev pub ReadAs : Result (List Notice) TapeFault → Result (Vec WarningBuf Global) ReadError → Type 0
+ReadAs r (Ok ws) = r ≡ Ok (map owned (vec-items ws))
+ReadAs r (Err (Fault f)) = r ≡ Err f
+ReadAs r (Err Memory) = Unit {0}

@@ -2,6 +2,7 @@
 ghost use mathlib.Core.Path.{_≡_};
 ghost use Rattle.tape.specs.declared.fault.WriteFault.the-variants.{NoWarning};
 ghost use Rattle.tape.specs.declared.fault.ReadError.the-variants.{Fault, Memory};
+ghost use Rattle.tape.specs.declared.fault.WriteError.the-variants.{Fault as Faulty, Memory as NoMemory};
 ghost use Rattle.tape.specs.Refusals.{of-write, of-tape};
 use std::alloc::AllocError;
 use std::alloc::Refused;
@@ -9,6 +10,8 @@ use warning::Refusal;
 use warning::Values;
 use warning::WarningFault;
 use warning::WarningFaultDebug;
+use warning::WarningFaultEq;
+use warning::WarningFaultPartialEq;
 
 // Why a warning was not written.
 #[derive(Clone, Copy, Debug)]
@@ -94,5 +97,29 @@ pub impl<T: Drop> From<Refused<T>> for ReadError as ReadErrorFromRefused {
 
     fn from(_e: Refused<T>) -> ReadError {
         ReadError::Memory
+    }
+}
+
+// Why a list of warnings was not written: one of them is none, or memory was
+// wanting.
+#[derive(Clone, Copy, PartialEq, Eq, Debug)]
+pub enum WriteError {
+    Fault(WarningFault),
+    Memory,
+}
+
+pub impl From<WarningFault> for WriteError as WriteErrorFromWarning {
+    ghost converts = { λ f r. r ≡ Faulty f };
+
+    fn from(f: WarningFault) -> WriteError {
+        WriteError::Fault(f)
+    }
+}
+
+pub impl From<AllocError> for WriteError as WriteErrorFromAlloc {
+    ghost converts = { λ _ r. r ≡ NoMemory };
+
+    fn from(_e: AllocError) -> WriteError {
+        WriteError::Memory
     }
 }

@@ -7,3 +7,4 @@ mod read;
 pub mod reader;
 pub mod tapes;
 pub mod write;
+pub mod write_all;

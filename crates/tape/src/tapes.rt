@@ -5,8 +5,10 @@ ghost use Prim.Native.Nat.{ℕ};
 ghost use Rattle.std.specs.Of.Vec.{vec-items};
 ghost use Rattle.std.specs.Vec.{made};
 ghost use Rattle.warning.specs.Owned.{owned};
-ghost use Rattle.tape.specs.Readers.{whole-tape, stands-at, read-so-far, Next};
-ghost use Rattle.tape.specs.Reading.{place};
+ghost use Rattle.tape.specs.Format.{encode-all};
+ghost use Rattle.tape.specs.Readers.{whole-tape, stands-at, read-so-far, Next, ReadAs};
+ghost use Rattle.tape.specs.Reading.{place, read-tape};
+ghost use lib.ListN.{take};
 use crate::cursor::Cursor;
 use crate::fault::ReadError;
 use crate::fault::ReadErrorFromRefused;
@@ -46,10 +48,31 @@ impl<'a> TapeReader<'a> {
         Ok(Some(at))
     }
 
-    // The warnings that have been read.
+    // The warnings that have been read. They write back as the octets that
+    // were passed.
     pub fn warnings(&self) -> &[WarningBuf]
-        ensures { λ r. ⌜ map owned (now r) ≡ read-so-far (now (self .entry)) ⌝ }
+        ensures value { λ r. ⌜ map owned (now r) ≡ read-so-far (now (self .entry)) ⌝ }
+        ensures written { λ r. ⌜ encode-all (map owned (now r)) ≡ take (stands-at (now (self .entry)) .at) (whole-tape (now (self .entry))) ⌝ }
     {
         self.read.as_slice()
     }
+
+    // The same, in memory that the caller then owns.
+    pub fn into_warnings(self) -> Vec<WarningBuf>
+        ensures value { λ r. ⌜ map owned (vec-items r) ≡ read-so-far (self .entry) ⌝ }
+        ensures written { λ r. ⌜ encode-all (map owned (vec-items r)) ≡ take (stands-at (self .entry) .at) (whole-tape (self .entry)) ⌝ }
+    {
+        let TapeReader { tape: _, at: _, read } = self;
+        read
+    }
+}
+
+// Reads a whole tape. What is readable writes back as the same octets.
+pub fn read(heap: Global, tape: &[u8]) -> Result<Vec<WarningBuf>, ReadError>
+    ensures value { λ r. ⌜ ReadAs (read-tape (now (tape .entry))) r ⌝ }
+    ensures writes_back { λ r. ⌜ made r (λ ws. encode-all (map owned (vec-items ws)) ≡ now (tape .entry)) ⌝ }
+{
+    let mut reader = TapeReader::new(heap, tape);
+    while reader.next(heap)?.is_some() {}
+    Ok(reader.into_warnings())
 }
