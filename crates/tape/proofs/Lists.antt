@@ -6,6 +6,11 @@ use mathlib.Core.List.{List, [], _∷_, _++_, map}
 use native.Mathlib.Omega.{arith}
 use lib.ListN.{length, take, drop, getD}
 use Rattle.std.proofs.shelf.Lists.{append-assoc, append-nil, take-append-drop, drop-more, map-append, map-more}
+use Rattle.std.proofs.shelf.Tests.{and-parts}
+use Rattle.std.specs.Of.Vec.{vec-items}
+use Rattle.std.specs.Vec.{made, refused}
+use Rattle.std.specs.declared.alloc.Global.{Global}
+use Rattle.std.specs.declared.vec.Vec.{Vec}
 use Rattle.std.specs.declared.result.Result.{Result}
 use Rattle.std.specs.declared.result.Result.the-variants.{Ok, Err}
 use Rattle.warning.specs.declared.WarningFault.{WarningFault}
@@ -69,3 +74,22 @@ item-split xs i x w h e k =
 pub append-err : (ws : List Notice) (w : Notice) (vs all : List Notice) (xs ys : List ℕ) (e : WriteError) → all ≡ ws ++ (w ∷ vs) → written ws ≡ Ok xs → Appended xs w ys (Err e) → WrittenAs all (Err e)
 append-err ws w vs all xs ys (Fault f) k h a = ap written k ∙ written-err ws w vs xs f h (a .0)
 append-err ws w vs all xs ys Memory k h a = tt
+
+-- warnings are written
+pub all-written : (ws : List Notice) → all-warnings ws ≡ true → written ws ≡ Ok (encode-all ws)
+all-written [] h = refl
+all-written (w ∷ ws) h =
+    let both = and-parts (is-warning (outline w)) (all-warnings ws) h in
+    ap (λ j. written-by j (encode w) (written ws)) (right-judged (outline w) (both .0)) ∙ ap (written-by (Ok tt) (encode w)) (all-written ws (both .1))
+
+-- what a reader has read is written back
+pub back-same : (ws : List Notice) (xs : List ℕ) (r : Result (Vec ℕ Global) WriteError) → encode-all ws ≡ xs → WrittenAs ws r → made r (λ v. vec-items v ≡ xs)
+back-same ws xs (Ok v) e a = sym (written-all ws (vec-items v) a .1) ∙ e
+back-same ws xs (Err f) e a = tt
+
+pub back-wanting : (ws : List Notice) (r : Result (Vec ℕ Global) WriteError) → all-warnings ws ≡ true → WrittenAs ws r → refused r (λ e. e ≡ Memory)
+back-wanting ws (Ok v) h a = tt
+back-wanting ws (Err (Fault f)) h a =
+    let both : _≡_ {A = Result (List ℕ) WarningFault} (Ok (encode-all ws)) (Err f) = sym (all-written ws h) ∙ a in
+    let z : _≡_ {A = ℕ} 0 1 = cc in absurd (omega arith)
+back-wanting ws (Err Memory) h a = refl

@@ -3,7 +3,8 @@ ghost use mathlib.Core.Path.{_≡_};
 ghost use mathlib.Core.List.{List, [], _∷_, _++_, map};
 ghost use Prim.Native.Nat.{ℕ};
 ghost use Rattle.std.specs.Of.Vec.{vec-items};
-ghost use Rattle.std.specs.Vec.{made};
+ghost use Rattle.std.specs.Vec.{made, refused};
+ghost use Rattle.std.specs.declared.result.Result.the-variants.{Ok};
 ghost use Rattle.warning.specs.Owned.{owned};
 ghost use Rattle.tape.specs.Format.{encode-all};
 ghost use Rattle.tape.specs.Readers.{whole-tape, stands-at, read-so-far, Next, ReadAs};
@@ -12,8 +13,10 @@ ghost use lib.ListN.{take};
 use crate::cursor::Cursor;
 use crate::fault::ReadError;
 use crate::fault::ReadErrorFromRefused;
+use crate::fault::WriteError;
 use crate::read::entry;
 use crate::reader::TapeReader;
+use crate::write_all::write_all;
 use std::alloc::Global;
 use warning::owned::WarningBuf;
 
@@ -55,6 +58,16 @@ impl<'a> TapeReader<'a> {
         ensures written { λ r. ⌜ encode-all (map owned (now r)) ≡ take (stands-at (now (self .entry)) .at) (whole-tape (now (self .entry))) ⌝ }
     {
         self.read.as_slice()
+    }
+
+    // Writes what has been read: these are the octets that were passed, and
+    // they read as the same warnings.
+    pub fn write_back(&self, heap: Global) -> Result<Vec<u8>, WriteError>
+        ensures same { λ r. ⌜ made r (λ v. vec-items v ≡ take (stands-at (now (self .entry)) .at) (whole-tape (now (self .entry)))) ⌝ }
+        ensures reads_back { λ r. ⌜ made r (λ v. read-tape (vec-items v) ≡ Ok (read-so-far (now (self .entry)))) ⌝ }
+        ensures wanting { λ r. ⌜ refused r (λ e. e ≡ WriteError.Memory) ⌝ }
+    {
+        write_all(heap, self.read.as_slice())
     }
 
     // The same, in memory that the caller then owns.
