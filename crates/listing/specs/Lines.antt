@@ -10,7 +10,7 @@ use Rattle.warning.specs.declared.Pair.{Pair}
 use Rattle.warning.specs.declared.Outline.{Outline}
 use Rattle.warning.specs.declared.Outline.the-variants.{Primary, Message}
 use Rattle.tape.specs.declared.fault.TapeFault.{TapeFault}
-use Rattle.tape.specs.declared.fault.TapeFault.the-variants.{Unknown, Ended}
+use Rattle.tape.specs.Refusals.{of-tape, offset-of}
 
 -- an area's length, or a dash where there is none
 abbrev pub area-text : Option ℕ → List ℕ
@@ -50,7 +50,9 @@ abbrev pub end-text : ℕ → ℕ → Bool → List ℕ
 end-text warnings octets same =
     codes "end " ++ (decimal warnings ++ (codes " warnings " ++ (decimal octets ++ (codes " octets " ++ same-text same))))
 
--- the end of one that could not
+-- the end of one that could not: the refusal's number, and its offset
+abbrev pub numbered-text : ℕ → ℕ → List ℕ
+numbered-text number offset = codes "refused " ++ (decimal number ++ (codes " " ++ decimal offset))
+
 abbrev pub refused-text : TapeFault → List ℕ
-refused-text (Unknown offset) = codes "refused 18 " ++ decimal offset
-refused-text (Ended offset) = codes "refused 19 " ++ decimal offset
+refused-text fault = numbered-text (of-tape fault .number) (offset-of fault)

@@ -2,7 +2,8 @@
 ghost use mathlib.Core.Path.{_≡_};
 ghost use Rattle.std.specs.Of.String.{string-bytes};
 ghost use Rattle.std.specs.Vec.{made};
-ghost use Rattle.listing.specs.Lines.{primary-text, message-start, message-text, entry-text, area-text, security-text, same-text, end-text, refused-text};
+ghost use Rattle.listing.specs.Lines.{primary-text, message-start, message-text, entry-text, area-text, security-text, same-text, end-text, numbered-text, refused-text};
+pub mod list;
 use std::alloc::AllocError;
 use std::alloc::Global;
 use tape::fault::TapeFault;
@@ -106,12 +107,15 @@ pub fn end_line(heap: Global, warnings: usize, octets: usize, same: bool) -> Res
     format!(heap, "end {warnings} warnings {octets} octets {same}")
 }
 
+fn numbered_line(heap: Global, number: u8, offset: usize) -> Result<String, AllocError>
+    ensures { λ r. ⌜ made r (λ s. string-bytes s ≡ numbered-text number offset) ⌝ }
+{
+    format!(heap, "refused {number} {offset}")
+}
+
 // The last line of a tape that could not be read.
 pub fn refused_line(heap: Global, fault: TapeFault) -> Result<String, AllocError>
     ensures { λ r. ⌜ made r (λ s. string-bytes s ≡ refused-text fault) ⌝ }
 {
-    match fault {
-        TapeFault::Unknown { offset } => format!(heap, "refused 18 {offset}"),
-        TapeFault::Ended { offset } => format!(heap, "refused 19 {offset}"),
-    }
+    numbered_line(heap, fault.refusal().number, fault.offset())
 }

@@ -21,7 +21,7 @@ use Rattle.tape.specs.Readers.{whole-tape, read-so-far, Next, ReadAs}
 use Rattle.tape.proofs.Takes.{Took}
 use Rattle.tape.proofs.Entries.{entry-ok}
 use Rattle.tape.proofs.Steps.{Reached}
-use Rattle.tape.proofs.Whole.{all-read, all-read-step, all-read-at, prepended-all, prepended-err, reads-back, some-octets}
+use Rattle.tape.proofs.Whole.{all-read, all-read-step, all-read-at, prepended-all, prepended-err, reads-back}
 
 -- what was read and what is left are the tape
 whole-tape-is : (t : List ℕ) (at : ℕ) (ws : List Notice) → Reached t at ws → encode-all ws ++ drop at t ≡ t
@@ -54,11 +54,7 @@ ends-refused t at ws f r h e =
 -- each warning leaves less
 pub next-less : (p q : Place) (ws vs : List Notice) (o : Option ℕ) → isSome o ≡ true → Next p ws q vs (Ok o) → length (q .rest) < length (p .rest)
 next-less p q ws vs None h n = let z : _≡_ {A = ℕ} 0 1 = cc in absurd (omega arith)
-next-less p q ws vs (Some o) h n =
-    let t = entry-ok p (n .1 .0) q (n .1 .1) .1 in
-    let cut = ap length (t .cut) ∙ length-append (encode (n .1 .0)) (q .rest) in
-    let some = some-octets (n .1 .0) in
-    omega arith
+next-less p q ws vs (Some o) h n = n .1
 
 -- no warning was left
 pub next-none : (p q : Place) (ws vs : List Notice) (o : Option ℕ) → isSome o ≡ false → Next p ws q vs (Ok o) → length (q .rest) ≡ 0

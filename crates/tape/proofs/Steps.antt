@@ -22,6 +22,7 @@ use Rattle.tape.specs.Cursors.{Agrees}
 use Rattle.tape.specs.Readers.{Next}
 use Rattle.tape.proofs.Takes.{Took}
 use Rattle.tape.proofs.Entries.{entry-ok}
+use Rattle.tape.proofs.Whole.{some-octets}
 
 all-more : (ws : List Notice) (w : Notice) → all-warnings ws ≡ true → is-warning (outline w) ≡ true → all-warnings (ws ++ (w ∷ [])) ≡ true
 all-more [] w h k = rw k
@@ -72,6 +73,14 @@ module _ (t : List ℕ) (at : ℕ) (ws vs : List Notice) (w : Notice) (q : Place
         right = ap all-warnings added ∙ all-more ws w (reached .right) right;
         written = ap encode-all added ∙ encode-more ws w ∙ ap (λ z. z ++ encode w) (reached .written) ∙ sym step-front;
       }
+
+-- each warning leaves less
+pub read-less : (p : Place) (w : Notice) (q : Place) → entry p ≡ Ok (w, q) → length (q .rest) < length (p .rest)
+read-less p w q e =
+    let t = entry-ok p w q e .1 in
+    let cut = ap length (t .cut) ∙ length-append (encode w) (q .rest) in
+    let some = some-octets w in
+    omega arith
 
 -- a refusal, as the reader meets it
 pub refused-read : (t : List ℕ) (at : ℕ) (f : TapeFault) → entry (place at (take (length t - at) (drop at t))) ≡ Err f → entry (place at (drop at t)) ≡ Err f

@@ -33,7 +33,7 @@ read-so-far r = map owned (vec-items (r .read))
 -- The next warning is added at the end and its offset answered; after the last one there is none.
 -- A refusal, and want of memory, leave the reader as it was.
 abbrev pub Next : Place → List Notice → Place → List Notice → Result (Option ℕ) ReadError → Type 0
-Next p ws q vs (Ok (Some offset)) = (offset ≡ p .at) × ((w : Notice) × (entry p ≡ Ok (w, q)) × (vs ≡ ws ++ (w ∷ [])))
+Next p ws q vs (Ok (Some offset)) = (offset ≡ p .at) × (length (q .rest) < length (p .rest)) × ((w : Notice) × (entry p ≡ Ok (w, q)) × (vs ≡ ws ++ (w ∷ [])))
 Next p ws q vs (Ok None) = (length (p .rest) ≡ 0) × (q ≡ p) × (vs ≡ ws)
 Next p ws q vs (Err (Fault f)) = (0 < length (p .rest)) × (entry p ≡ Err f) × (q ≡ p) × (vs ≡ ws)
 Next p ws q vs (Err Memory) = (q ≡ p) × (vs ≡ ws)

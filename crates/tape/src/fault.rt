@@ -3,7 +3,7 @@ ghost use mathlib.Core.Path.{_≡_};
 ghost use Rattle.tape.specs.declared.fault.WriteFault.the-variants.{NoWarning};
 ghost use Rattle.tape.specs.declared.fault.ReadError.the-variants.{Fault, Memory};
 ghost use Rattle.tape.specs.declared.fault.WriteError.the-variants.{Fault as Faulty, Memory as NoMemory};
-ghost use Rattle.tape.specs.Refusals.{of-write, of-tape};
+ghost use Rattle.tape.specs.Refusals.{of-write, of-tape, offset-of};
 use std::alloc::AllocError;
 use std::alloc::Refused;
 use warning::Refusal;
@@ -53,6 +53,16 @@ impl WriteFault {
 }
 
 impl TapeFault {
+    // The offset at which the tape is refused.
+    pub fn offset(self) -> usize
+        ensures { λ r. ⌜ r ≡ offset-of self ⌝ }
+    {
+        match self {
+            TapeFault::Unknown { offset } => offset,
+            TapeFault::Ended { offset } => offset,
+        }
+    }
+
     pub fn refusal(self) -> Refusal
         ensures { λ r. ⌜ r ≡ of-tape self ⌝ }
     {

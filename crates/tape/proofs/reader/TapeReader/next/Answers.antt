@@ -7,7 +7,7 @@ use Rattle.std.proofs.shelf.Results.{err-from-errBy}
 use Rattle.std.specs.Of.Vec.{vec-items}
 use Rattle.warning.specs.Owned.{owned}
 use Rattle.tape.specs.Cursors.{stands}
-use Rattle.tape.proofs.Steps.{Reached, step-read, step-reached, next-err, owned-more}
+use Rattle.tape.proofs.Steps.{Reached, read-less, step-read, step-reached, next-err, owned-more}
 use Rattle.tape.proofs.reader.TapeReader.next.Needs as need
 
 pub returns-then-at-self : need.returns-then-at-self
@@ -37,4 +37,4 @@ returns c =
     let more = pushed (c .in-Continue-warning .warning ∷ []) refl (c .in-Continue-push .was tt) (c .push .ensures .items) in
     let reached : Reached (self .tape .now) (self .at) (map owned (vec-items (self .read))) = record { within = self .within; right = self .right; written = self .written } in
     let read = step-read (self .tape .now) (self .at) (map owned (vec-items (self .read))) (map owned (vec-items (c .push .last .self))) (owned (c .in-Continue-warning .warning)) (stands (c .in-Continue-warning .after)) reached (c .in-Continue-warning .ensures tt .value) (owned-more _ _ _ more) in
-    record { tape = refl; step = (refl, (owned (c .in-Continue-warning .warning), read, owned-more _ _ _ more)) }
+    record { tape = refl; step = (refl, read-less _ _ _ read, (owned (c .in-Continue-warning .warning), read, owned-more _ _ _ more)) }
