@@ -3,7 +3,9 @@ ghost use mathlib.Core.Path.{_≡_};
 ghost use Rattle.std.specs.Of.String.{string-bytes};
 ghost use Rattle.std.specs.Vec.{made};
 ghost use Rattle.listing.specs.Lines.{primary-text, message-start, message-text, entry-text, area-text, security-text, same-text, end-text, numbered-text, refused-text};
+
 pub mod list;
+
 use std::alloc::AllocError;
 use std::alloc::Global;
 use tape::fault::TapeFault;
@@ -100,7 +102,12 @@ pub fn entry_line(heap: Global, offset: usize, outline: Outline) -> Result<Strin
 }
 
 // The last line of a tape that could be read.
-pub fn end_line(heap: Global, warnings: usize, octets: usize, same: bool) -> Result<String, AllocError>
+pub fn end_line(
+    heap: Global,
+    warnings: usize,
+    octets: usize,
+    same: bool,
+) -> Result<String, AllocError>
     ensures { λ r. ⌜ made r (λ s. string-bytes s ≡ end-text warnings octets same) ⌝ }
 {
     let same = same_text(same);

@@ -159,8 +159,8 @@ primary-at at pair warning-type security rest h =
     ∙ then-is _ _ warning-type (place (at + 4 + 2) t₁) (number-at (at + 4) warning-type t₁)
     ∙ then-is _ _ flag (place (at + 4 + 2 + 1) (xs ++ rest)) (octet-at (λ f. leb f 1) (at + 4 + 2) flag (xs ++ rest) (right-flag security))
     ∙ then-is _ _ security (place (at + 4 + 2 + 1 + 50) rest)
-      (then-is _ _ xs (place (at + 4 + 2 + 1 + 50) rest) (operand-at 50 (λ ys. cond (eqb flag 0) (all-zero ys) true) (at + 4 + 2 + 1) xs rest (s .0) (s .1))
-        ∙ ap (λ z. Ok (z, place (at + 4 + 2 + 1 + 50) rest)) (s .2))
+    (then-is _ _ xs (place (at + 4 + 2 + 1 + 50) rest) (operand-at 50 (λ ys. cond (eqb flag 0) (all-zero ys) true) (at + 4 + 2 + 1) xs rest (s .0) (s .1))
+    ∙ ap (λ z. Ok (z, place (at + 4 + 2 + 1 + 50) rest)) (s .2))
     ∙ ap (λ z. Ok (primary pair warning-type security, place z rest)) moved
 
 flag-allowed : (b : Bool) → 1 ≤ cond b 0 1 → b ≡ false

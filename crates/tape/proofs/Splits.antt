@@ -166,16 +166,16 @@ zeros-here w count here past t h k =
     let same : take w t ≡ take here t = take-same w here t h in
     ap all-zero
     (⊎-elim
-      (λ s.
-        let p : past ≡ here = omega arith in
-        let long = length-take here t in
-        let none : drop count (take here t) ≡ [] = drop-all count (take here t) (omega arith) in
-        let left : take (here - past) (drop past t) ≡ [] = rw p (ap (λ n. take n (drop here t)) (sub-same here)) in
-        left ∙ sym none ∙ ap (drop count) (sym same))
-      (λ s.
-        let p : past ≡ count = omega arith in
-        ap (λ n. take (here - n) (drop n t)) p ∙ between-is t count here ∙ ap (drop count) (sym same))
-      (cases-lt here count))
+    (λ s.
+    let p : past ≡ here = omega arith in
+    let long = length-take here t in
+    let none : drop count (take here t) ≡ [] = drop-all count (take here t) (omega arith) in
+    let left : take (here - past) (drop past t) ≡ [] = rw p (ap (λ n. take n (drop here t)) (sub-same here)) in
+    left ∙ sym none ∙ ap (drop count) (sym same))
+    (λ s.
+    let p : past ≡ count = omega arith in
+    ap (λ n. take (here - n) (drop n t)) p ∙ between-is t count here ∙ ap (drop count) (sym same))
+    (cases-lt here count))
 
 pub padded-wrong : (w count here past at : ℕ) (t : List ℕ) → here ≡ min w (length t) → past ≡ min count here → all-zero (take (here - past) (drop past t)) ≡ false → operand w (λ xs. all-zero (drop count xs)) (place at t) ≡ Err (Unknown at)
 padded-wrong w count here past at t h k e = operand-wrong w (λ xs. all-zero (drop count xs)) at t (sym (zeros-here w count here past t h k) ∙ e)

@@ -56,9 +56,9 @@ all-read-step p h =
     let more : all-read p ≡ entries (suc n) p = entries-enough n (suc n) p (omega arith) (omega arith) in
     let first : entries (suc n) p ≡ followed (entry p) (entries n) = rw some in
     more ∙ first ∙ followed-same (entry p) (entries n) all-read (λ w q e.
-      let t = entry-ok p w q e .1 in
-      let l = left-less n w p q (omega arith) t in
-      entries-enough n (length (q .rest)) q l (omega arith))
+    let t = entry-ok p w q e .1 in
+    let l = left-less n w p q (omega arith) t in
+    entries-enough n (length (q .rest)) q l (omega arith))
 
 abbrev pub prepended-all : List Notice → Result (List Notice) TapeFault → Result (List Notice) TapeFault
 prepended-all [] r = r
@@ -127,9 +127,9 @@ written-by (suc n) p ws h e =
     ⊎-elim
     (λ k. none-written ws (p .rest) (eqb-true _ _ (k .0)) (k .1))
     (λ k.
-      let s = followed-parts (entry p) (entries n) ws (k .1) in
-      let o = entry-ok p (s .0) (s .1) (s .3) in
-      more-written (s .0) (s .2) ws p (s .1) o (written-by n (s .1) (s .2) (left-less n (s .0) p (s .1) h (o .1)) (s .4)) (s .5))
+    let s = followed-parts (entry p) (entries n) ws (k .1) in
+    let o = entry-ok p (s .0) (s .1) (s .3) in
+    more-written (s .0) (s .2) ws p (s .1) o (written-by n (s .1) (s .2) (left-less n (s .0) p (s .1) h (o .1)) (s .4)) (s .5))
     (cond-parts (eqb (length (p .rest)) 0) (Ok []) (followed (entry p) (entries n)) (Ok ws) e)
 
 pub writes-back : Writes-what-was-read

@@ -2,7 +2,8 @@
 use mathlib.Core.Path.{_≡_}
 use mathlib.Core.Bool.{Bool, true, _&&_}
 use mathlib.Core.List.{List, [], _∷_, _++_}
-use Prim.Native.Nat.{ℕ}
+use Prim.Native.Nat.{ℕ, _≤_}
+use lib.ListN.{length}
 use Rattle.std.specs.declared.result.Result.{Result}
 use Rattle.std.specs.declared.result.Result.the-variants.{Ok, Err}
 use Rattle.warning.specs.declared.WarningFault.{WarningFault}
@@ -50,3 +51,8 @@ Reads-what-was-written = (ws : List Notice) → all-warnings ws ≡ true → rea
 -- what is readable writes back as the same octets
 abbrev pub Writes-what-was-read : Type 0
 Writes-what-was-read = (tape : List ℕ) (ws : List Notice) → read-tape tape ≡ Ok ws → (all-warnings ws ≡ true) × (encode-all ws ≡ tape)
+
+-- no warning takes more octets than n, and one takes so many
+pub record Longest (n : ℕ) : Type 0 where
+  pub most : (w : Notice) → is-warning (outline w) ≡ true → length (encode w) ≤ n
+  pub met : (w : Notice) × (is-warning (outline w) ≡ true) × (length (encode w) ≡ n)

@@ -155,7 +155,11 @@ fn is_all_zero(octets: &[u8]) -> bool
 }
 
 // Octets of a width, of which all past a count are zeros.
-pub fn padded(input: Cursor<'_>, width: usize, count: usize) -> Result<(&[u8], Cursor<'_>), TapeFault>
+pub fn padded(
+    input: Cursor<'_>,
+    width: usize,
+    count: usize,
+) -> Result<(&[u8], Cursor<'_>), TapeFault>
     requires { ⌜ Within input ⌝ }
     ensures value { λ r. ⌜ gave-octets r ≡ operand width (λ xs. all-zero (drop count xs)) (stands (input .entry)) ⌝ }
     ensures within { λ r. ⌜ made r (λ x. Within (x .1)) ⌝ }

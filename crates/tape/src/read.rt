@@ -37,7 +37,11 @@ fn part(heap: Global, input: Cursor<'_>, count: usize) -> Result<(Vec<u8>, Curso
 }
 
 // Security information, which is zeros where its flag is 0.
-fn security(heap: Global, input: Cursor<'_>, flag: u8) -> Result<(Option<Vec<u8>>, Cursor<'_>), ReadError>
+fn security(
+    heap: Global,
+    input: Cursor<'_>,
+    flag: u8,
+) -> Result<(Option<Vec<u8>>, Cursor<'_>), ReadError>
     requires within { ⌜ Within input ⌝ }
     ensures value { λ r. ⌜ Agrees kept (security-operand flag (stands (input .entry))) r ⌝ }
     ensures within { λ r. ⌜ made r (λ x. Within (x .1)) ⌝ }
@@ -67,7 +71,6 @@ fn primary(heap: Global, input: Cursor<'_>) -> Result<(WarningBuf, Cursor<'_>), 
     };
     Ok((warning, rest))
 }
-
 
 // The operands of a message.
 #[derive(Clone, Copy)]
@@ -172,8 +175,20 @@ pub fn entry(heap: Global, input: Cursor<'_>) -> Result<(WarningBuf, Cursor<'_>)
     ensures within { λ r. ⌜ made r (λ x. Within (x .1)) ⌝ }
 {
     match input.rest {
-        [PRIMARY, operands @ ..] => primary(heap, Cursor { at: input.at + 1, rest: operands }),
-        [MESSAGE, operands @ ..] => message(heap, Cursor { at: input.at + 1, rest: operands }),
+        [PRIMARY, operands @ ..] => primary(
+            heap,
+            Cursor {
+                at: input.at + 1,
+                rest: operands,
+            },
+        ),
+        [MESSAGE, operands @ ..] => message(
+            heap,
+            Cursor {
+                at: input.at + 1,
+                rest: operands,
+            },
+        ),
         [_, ..] => Err(ReadError::Fault(TapeFault::Unknown { offset: input.at })),
         [] => Err(ReadError::Fault(TapeFault::Ended { offset: input.at })),
     }

@@ -7,6 +7,7 @@ ghost use Rattle.std.specs.Vec.{made, refused};
 ghost use Rattle.std.specs.declared.result.Result.the-variants.{Ok};
 ghost use Rattle.warning.specs.Owned.{owned};
 ghost use Rattle.tape.specs.Format.{encode-all};
+ghost use Rattle.tape.specs.Promises.{Reads-what-was-written, Writes-what-was-read};
 ghost use Rattle.tape.specs.Readers.{whole-tape, stands-at, read-so-far, Next, ReadAs};
 ghost use Rattle.tape.specs.Reading.{place, read-tape};
 ghost use lib.ListN.{take};
@@ -66,6 +67,7 @@ impl<'a> TapeReader<'a> {
         ensures same { λ r. ⌜ made r (λ v. vec-items v ≡ take (stands-at (now (self .entry)) .at) (whole-tape (now (self .entry)))) ⌝ }
         ensures reads_back { λ r. ⌜ made r (λ v. read-tape (vec-items v) ≡ Ok (read-so-far (now (self .entry)))) ⌝ }
         ensures wanting { λ r. ⌜ refused r (λ e. e ≡ WriteError.Memory) ⌝ }
+        ensures round_trips { λ _. ⌜ Reads-what-was-written × Writes-what-was-read ⌝ }
     {
         write_all(heap, self.read.as_slice())
     }
@@ -75,7 +77,11 @@ impl<'a> TapeReader<'a> {
         ensures value { λ r. ⌜ map owned (vec-items r) ≡ read-so-far (self .entry) ⌝ }
         ensures written { λ r. ⌜ encode-all (map owned (vec-items r)) ≡ take (stands-at (self .entry) .at) (whole-tape (self .entry)) ⌝ }
     {
-        let TapeReader { tape: _, at: _, read } = self;
+        let TapeReader {
+            tape: _,
+            at: _,
+            read,
+        } = self;
         read
     }
 }

@@ -12,7 +12,7 @@ ghost use Rattle.warning.specs.Notice.{outline, primary};
 ghost use Rattle.warning.specs.Rules.{is-warning};
 ghost use Rattle.tape.specs.Format.{encode, piece, pieces, part-cost, pair-octets, primary-head, area-head, message-head, security-part, octets-of};
 ghost use Rattle.tape.specs.Writing.{costed, write-outcome};
-ghost use Rattle.tape.specs.Reading.{read-tape};
+ghost use Rattle.tape.specs.Promises.{Longest};
 use crate::fault::*;
 use crate::numbers::*;
 use octets::put;
@@ -43,6 +43,13 @@ pub fn cost(outline: Outline) -> Result<usize, WarningFault>
             Ok(MESSAGE_OCTETS + part_cost(message) + part_cost(area.unwrap_or(0)))
         }
     }
+}
+
+// The octets of the longest warning on tape.
+pub fn longest_entry() -> usize
+    ensures { λ r. ⌜ Longest r ⌝ }
+{
+    LONGEST_ENTRY
 }
 
 // One data command.

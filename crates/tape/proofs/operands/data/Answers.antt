@@ -22,7 +22,7 @@ returns-in-Break-input-2 c =
     let p = err-from-errBy (c .from-residual-in-Break-input-2 .result) (c .from-residual-in-Break-input-2 .ensures .1) in
     rw (p .1, p .2) (record {
       value = from-ok (octet (λ x. eqb x 0x44) (stands (c .args .input))) _ _ _ _ (c .in-Continue-input .ensures tt .value)
-        (from-err (octet (λ x. eqb x (c .args .count)) (stands (c .in-Continue-input .input))) _ _ (c .in-Break-input-2 .ensures tt .value));
+          (from-err (octet (λ x. eqb x (c .args .count)) (stands (c .in-Continue-input .input))) _ _ (c .in-Break-input-2 .ensures tt .value));
       within = tt;
     })
 
@@ -32,8 +32,8 @@ returns-in-Break-octets c =
     let p = err-from-errBy (c .from-residual-in-Break-octets .result) (c .from-residual-in-Break-octets .ensures .1) in
     rw (p .1, p .2) (record {
       value = from-ok (octet (λ x. eqb x 0x44) (stands (c .args .input))) _ _ _ _ (c .in-Continue-input .ensures tt .value)
-        (from-ok (octet (λ x. eqb x (c .args .count)) (stands (c .in-Continue-input .input))) _ _ _ _ (c .in-Continue-input-2 .ensures tt .value)
-        (from-err (operand 32 (λ xs. all-zero (drop (c .args .count) xs)) (stands (c .in-Continue-input-2 .input))) _ _ (c .in-Break-octets .ensures tt .value)));
+          (from-ok (octet (λ x. eqb x (c .args .count)) (stands (c .in-Continue-input .input))) _ _ _ _ (c .in-Continue-input-2 .ensures tt .value)
+          (from-err (operand 32 (λ xs. all-zero (drop (c .args .count) xs)) (stands (c .in-Continue-input-2 .input))) _ _ (c .in-Break-octets .ensures tt .value)));
       within = tt;
     })
 
@@ -45,7 +45,7 @@ unfolding data-operands
 returns c =
     record {
       value = from-ok (octet (λ x. eqb x 0x44) (stands (c .args .input))) _ _ _ _ (c .in-Continue-input .ensures tt .value)
-        (from-ok (octet (λ x. eqb x (c .args .count)) (stands (c .in-Continue-input .input))) _ _ _ _ (c .in-Continue-input-2 .ensures tt .value)
-        (from-ok (operand 32 (λ xs. all-zero (drop (c .args .count) xs)) (stands (c .in-Continue-input-2 .input))) _ _ _ _ (c .in-Continue-octets .ensures tt .value) (ap (λ n. Ok (take n (c .in-Continue-octets .octets .now), stands (c .in-Continue-octets .rest))) (from-start (c .args .count)))));
+          (from-ok (octet (λ x. eqb x (c .args .count)) (stands (c .in-Continue-input .input))) _ _ _ _ (c .in-Continue-input-2 .ensures tt .value)
+          (from-ok (operand 32 (λ xs. all-zero (drop (c .args .count) xs)) (stands (c .in-Continue-input-2 .input))) _ _ _ _ (c .in-Continue-octets .ensures tt .value) (ap (λ n. Ok (take n (c .in-Continue-octets .octets .now), stands (c .in-Continue-octets .rest))) (from-start (c .args .count)))));
       within = c .in-Continue-octets .ensures tt .within;
     }

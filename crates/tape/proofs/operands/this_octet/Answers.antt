@@ -24,6 +24,6 @@ returns c =
     let is = c .if-value-wanted .left in
     record {
       value = ap (λ z. Ok (z, stands (c .in-Continue-value .rest))) (sym is)
-        ∙ tested-yes (λ x. eqb x (c .args .wanted)) (stands (c .args .input)) _ (c .in-Continue-value .value) (c .in-Continue-value .ensures tt .value) (eq-eqb _ _ is);
+          ∙ tested-yes (λ x. eqb x (c .args .wanted)) (stands (c .args .input)) _ (c .in-Continue-value .value) (c .in-Continue-value .ensures tt .value) (eq-eqb _ _ is);
       within = c .in-Continue-value .ensures tt .within;
     }

@@ -20,7 +20,7 @@ returns-in-Break-pair c =
     let p = err-from-errBy (c .from-residual-in-Break-pair .result) (c .from-residual-in-Break-pair .ensures .1) in
     rw (p .1, p .2) (record {
       value = sym (from-ok (octet carries-message (stands (c .args .input))) _ _ _ _ (c .in-Continue-block .ensures tt .value)
-        (from-err (pair-operands (stands (c .in-Continue-block .rest))) _ _ (c .in-Break-pair .ensures tt .value)));
+          (from-err (pair-operands (stands (c .in-Continue-block .rest))) _ _ (c .in-Break-pair .ensures tt .value)));
       within = tt;
     })
 
@@ -30,8 +30,8 @@ returns-in-Break-coding c =
     let p = err-from-errBy (c .from-residual-in-Break-coding .result) (c .from-residual-in-Break-coding .ensures .1) in
     rw (p .1, p .2) (record {
       value = sym (from-ok (octet carries-message (stands (c .args .input))) _ _ _ _ (c .in-Continue-block .ensures tt .value)
-        (from-ok (pair-operands (stands (c .in-Continue-block .rest))) _ _ _ _ (c .in-Continue-pair .ensures tt .value)
-        (from-err (octet (λ x. true) (stands (c .in-Continue-pair .rest))) _ _ (c .in-Break-coding .ensures tt .value))));
+          (from-ok (pair-operands (stands (c .in-Continue-block .rest))) _ _ _ _ (c .in-Continue-pair .ensures tt .value)
+          (from-err (octet (λ x. true) (stands (c .in-Continue-pair .rest))) _ _ (c .in-Break-coding .ensures tt .value))));
       within = tt;
     })
 
@@ -40,9 +40,9 @@ unfolding message-operands
 returns c =
     record {
       value = agrees-same owned _ _ (c .message-lengths .result)
-        (sym (from-ok (octet carries-message (stands (c .args .input))) _ _ _ _ (c .in-Continue-block .ensures tt .value)
-        (from-ok (pair-operands (stands (c .in-Continue-block .rest))) _ _ _ _ (c .in-Continue-pair .ensures tt .value)
-        (from-ok (octet (λ x. true) (stands (c .in-Continue-pair .rest))) _ _ _ _ (c .in-Continue-coding .ensures tt .value) refl))))
-        (c .message-lengths .ensures .value);
+          (sym (from-ok (octet carries-message (stands (c .args .input))) _ _ _ _ (c .in-Continue-block .ensures tt .value)
+          (from-ok (pair-operands (stands (c .in-Continue-block .rest))) _ _ _ _ (c .in-Continue-pair .ensures tt .value)
+          (from-ok (octet (λ x. true) (stands (c .in-Continue-pair .rest))) _ _ _ _ (c .in-Continue-coding .ensures tt .value) refl))))
+          (c .message-lengths .ensures .value);
       within = c .message-lengths .ensures .within;
     }

@@ -15,7 +15,7 @@ returns-in-Break-flag c =
     let f = rw (c .most-flag .ensures) at (c .in-Break-flag .ensures tt .value) in
     rw (p .1, p .2) (record {
       value = sym (from-ok (number-to (limit (c .args .block)) (stands (c .args .input))) _ _ _ _ m
-        (from-err (octet (λ x. leb x (most-flag (c .args .block))) (stands (c .in-Continue-message .rest))) _ _ f));
+          (from-err (octet (λ x. leb x (most-flag (c .args .block))) (stands (c .in-Continue-message .rest))) _ _ f));
       within = tt;
     })
 
@@ -27,8 +27,8 @@ returns-in-Break-area c =
     let a = rw (c .most-area .ensures) at (c .in-Break-area .ensures tt .value) in
     rw (p .1, p .2) (record {
       value = sym (from-ok (number-to (limit (c .args .block)) (stands (c .args .input))) _ _ _ _ m
-        (from-ok (octet (λ x. leb x (most-flag (c .args .block))) (stands (c .in-Continue-message .rest))) _ _ _ _ f
-        (from-err (number-to (most-area (c .args .block) (c .in-Continue-message .message) (c .in-Continue-flag .flag)) (stands (c .in-Continue-flag .rest))) _ _ a)));
+          (from-ok (octet (λ x. leb x (most-flag (c .args .block))) (stands (c .in-Continue-message .rest))) _ _ _ _ f
+          (from-err (number-to (most-area (c .args .block) (c .in-Continue-message .message) (c .in-Continue-flag .flag)) (stands (c .in-Continue-flag .rest))) _ _ a)));
       within = tt;
     })
 
@@ -39,9 +39,9 @@ returns c =
     let a = rw (c .most-area .ensures) at (c .in-Continue-area .ensures tt .value) in
     record {
       value = agrees-same owned _ _ (c .message-data .result)
-        (sym (from-ok (number-to (limit (c .args .block)) (stands (c .args .input))) _ _ _ _ m
-        (from-ok (octet (λ x. leb x (most-flag (c .args .block))) (stands (c .in-Continue-message .rest))) _ _ _ _ f
-        (from-ok (number-to (most-area (c .args .block) (c .in-Continue-message .message) (c .in-Continue-flag .flag)) (stands (c .in-Continue-flag .rest))) _ _ _ _ a refl))))
-        (c .message-data .ensures .value);
+          (sym (from-ok (number-to (limit (c .args .block)) (stands (c .args .input))) _ _ _ _ m
+          (from-ok (octet (λ x. leb x (most-flag (c .args .block))) (stands (c .in-Continue-message .rest))) _ _ _ _ f
+          (from-ok (number-to (most-area (c .args .block) (c .in-Continue-message .message) (c .in-Continue-flag .flag)) (stands (c .in-Continue-flag .rest))) _ _ _ _ a refl))))
+          (c .message-data .ensures .value);
       within = c .message-data .ensures .within;
     }

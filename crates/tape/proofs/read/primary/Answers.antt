@@ -19,7 +19,7 @@ returns-in-Break-warning-type c =
     let p = err-from-errBy (c .from-residual-in-Break-warning-type .result) (c .from-residual-in-Break-warning-type .ensures .1) in
     rw (p .1, p .2) (record {
       value = sym (from-ok (pair-operands (stands (c .args .input))) _ _ _ _ (c .in-Continue-pair .ensures tt .value)
-        (from-err (number (stands (c .in-Continue-pair .rest))) _ _ (c .in-Break-warning-type .ensures tt .value)));
+          (from-err (number (stands (c .in-Continue-pair .rest))) _ _ (c .in-Break-warning-type .ensures tt .value)));
       within = tt;
     })
 
@@ -29,8 +29,8 @@ returns-in-Break-flag c =
     let p = err-from-errBy (c .from-residual-in-Break-flag .result) (c .from-residual-in-Break-flag .ensures .1) in
     rw (p .1, p .2) (record {
       value = sym (from-ok (pair-operands (stands (c .args .input))) _ _ _ _ (c .in-Continue-pair .ensures tt .value)
-        (from-ok (number (stands (c .in-Continue-pair .rest))) _ _ _ _ (c .in-Continue-warning-type .ensures tt .value)
-        (from-err (octet (λ x. leb x 1) (stands (c .in-Continue-warning-type .rest))) _ _ (c .in-Break-flag .ensures tt .value))));
+          (from-ok (number (stands (c .in-Continue-pair .rest))) _ _ _ _ (c .in-Continue-warning-type .ensures tt .value)
+          (from-err (octet (λ x. leb x 1) (stands (c .in-Continue-warning-type .rest))) _ _ (c .in-Break-flag .ensures tt .value))));
       within = tt;
     })
 
@@ -40,11 +40,11 @@ returns-in-Break-security c =
     let p = err-from-errBy (c .from-residual-in-Break-security .result) (c .from-residual-in-Break-security .ensures .1) in
     rw (p .1, p .2) (record {
       value = agrees-err kept owned (security-operand (c .in-Continue-flag .flag) (stands (c .in-Continue-flag .rest))) _ _
-        (λ h k. from-ok (pair-operands (stands (c .args .input))) _ _ _ _ (c .in-Continue-pair .ensures tt .value)
-        (from-ok (number (stands (c .in-Continue-pair .rest))) _ _ _ _ (c .in-Continue-warning-type .ensures tt .value)
-        (from-ok (octet (λ x. leb x 1) (stands (c .in-Continue-warning-type .rest))) _ _ _ _ (c .in-Continue-flag .ensures tt .value)
-        (from-err (security-operand (c .in-Continue-flag .flag) (stands (c .in-Continue-flag .rest))) _ h k))))
-        (c .in-Break-security .ensures tt .value);
+          (λ h k. from-ok (pair-operands (stands (c .args .input))) _ _ _ _ (c .in-Continue-pair .ensures tt .value)
+          (from-ok (number (stands (c .in-Continue-pair .rest))) _ _ _ _ (c .in-Continue-warning-type .ensures tt .value)
+          (from-ok (octet (λ x. leb x 1) (stands (c .in-Continue-warning-type .rest))) _ _ _ _ (c .in-Continue-flag .ensures tt .value)
+          (from-err (security-operand (c .in-Continue-flag .flag) (stands (c .in-Continue-flag .rest))) _ h k))))
+          (c .in-Break-security .ensures tt .value);
       within = tt;
     })
 
@@ -53,8 +53,8 @@ unfolding primary-operands
 returns c =
     record {
       value = sym (from-ok (pair-operands (stands (c .args .input))) _ _ _ _ (c .in-Continue-pair .ensures tt .value)
-        (from-ok (number (stands (c .in-Continue-pair .rest))) _ _ _ _ (c .in-Continue-warning-type .ensures tt .value)
-        (from-ok (octet (λ x. leb x 1) (stands (c .in-Continue-warning-type .rest))) _ _ _ _ (c .in-Continue-flag .ensures tt .value)
-        (from-ok (security-operand (c .in-Continue-flag .flag) (stands (c .in-Continue-flag .rest))) _ _ _ _ (sym (c .in-Continue-security .ensures tt .value)) refl))));
+          (from-ok (number (stands (c .in-Continue-pair .rest))) _ _ _ _ (c .in-Continue-warning-type .ensures tt .value)
+          (from-ok (octet (λ x. leb x 1) (stands (c .in-Continue-warning-type .rest))) _ _ _ _ (c .in-Continue-flag .ensures tt .value)
+          (from-ok (security-operand (c .in-Continue-flag .flag) (stands (c .in-Continue-flag .rest))) _ _ _ _ (sym (c .in-Continue-security .ensures tt .value)) refl))));
       within = c .in-Continue-security .ensures tt .within;
     }

@@ -14,7 +14,7 @@ returns-in-Break-octets c =
     let p = err-from-errBy (c .from-residual-in-Break-octets .result) (c .from-residual-in-Break-octets .ensures .1) in
     rw (p .1, p .2) (record {
       value = security-octets-are (c .args .flag) (stands (c .args .input)) (c .if-flag-eq0 .left)
-        ∙ then-err (operand 50 (λ xs. all-zero (drop 50 xs)) (stands (c .args .input))) _ _ (sym (c .in-Break-octets .ensures tt .value));
+          ∙ then-err (operand 50 (λ xs. all-zero (drop 50 xs)) (stands (c .args .input))) _ _ (sym (c .in-Break-octets .ensures tt .value));
       within = tt;
     })
 
@@ -22,7 +22,7 @@ pub returns : need.returns
 returns c =
     record {
       value = security-octets-are (c .args .flag) (stands (c .args .input)) (c .if-flag-eq0 .left)
-        ∙ then-is (operand 50 (λ xs. all-zero (drop 50 xs)) (stands (c .args .input))) _ _ _ (sym (c .in-Continue-octets .ensures tt .value))
-        ∙ ap (λ z. Ok (Some z, stands (c .in-Continue-octets .rest))) (sym (c .in-Continue-from-slice .ensures tt .made .0));
+          ∙ then-is (operand 50 (λ xs. all-zero (drop 50 xs)) (stands (c .args .input))) _ _ _ (sym (c .in-Continue-octets .ensures tt .value))
+          ∙ ap (λ z. Ok (Some z, stands (c .in-Continue-octets .rest))) (sym (c .in-Continue-from-slice .ensures tt .made .0));
       within = c .in-Continue-octets .ensures tt .within;
     }
