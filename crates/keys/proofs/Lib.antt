@@ -1,0 +1,6 @@
+pub mod Agree
+pub mod Counts
+pub mod Expiry
+pub mod Places
+pub mod Rooms
+pub mod Rotated

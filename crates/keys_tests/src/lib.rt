@@ -1,0 +1,3 @@
+// Tests of the lists of keys.
+#[cfg(test)]
+mod tests;

@@ -1,0 +1,5 @@
+pub mod Numbers
+pub mod Meaning
+pub mod Outcomes
+pub mod Refusals
+pub mod Trials
