@@ -1,4 +1,6 @@
 // A store with a berth of its own for each slot and number.
+#![tactic(auto)]
+
 ghost use Rattle.std.specs.Prelude.{◌≡◌, length};
 ghost use Rattle.store.specs.Meaning.{Counted};
 ghost use Rattle.berths.specs.Numbers.{slot_count, berth_count, one};

@@ -1,4 +1,6 @@
 // The joint table of instances: what the definitions come to at single values.
+#![tactic(auto)]
+
 ghost use Rattle.instances.specs.Costs.{PoolCosts};
 ghost use Rattle.instances.specs.Primaries.{FivePrimaries};
 

@@ -1,5 +1,7 @@
 // Lists of keys with the clock of their storing: one text for every kind of key.
 // A list is kept in the order of storing, the oldest entry first.
+#![tactic(auto)]
+
 ghost use Rattle.std.specs.Prelude.{◌≡◌, ℕ, ◌+◌, ◌-◌, ◌<◌, ◌≤◌, Bool, true, length, take, IfSome, Decides, slice_index_or};
 ghost use Rattle.std.specs.List.{remove};
 ghost use Rattle.keys.specs.Entries.{place, Found, count_of, oldest_place, stored_last, old, gone, left};

@@ -1,4 +1,6 @@
 // Reads calls on the two lists of keys from the input, one to a line, and prints the answers.
+#![tactic(auto)]
+
 use anyhow::anyhow;
 use keys::Entry;
 use keys::kinds::NetworkPair;

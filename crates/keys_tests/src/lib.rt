@@ -1,3 +1,5 @@
 // Tests of the lists of keys.
+#![tactic(auto)]
+
 #[cfg(test)]
 mod tests;

@@ -1,4 +1,6 @@
 // The lines that list a tape.
+#![tactic(auto)]
+
 ghost use Rattle.std.specs.Prelude.{◌≡◌, IfOk, string_bytes};
 ghost use Rattle.listing.specs.Lines.{primary_text, message_start, message_text, entry_text, area_text, security_text, same_text, end_text, numbered_text, refused_text};
 

@@ -1,4 +1,6 @@
 // Octets in lent memory: a run of octets is written at a place.
+#![tactic(auto)]
+
 ghost use Rattle.std.specs.Prelude.{◌≡◌, ◌+◌, ◌≤◌, length};
 ghost use Rattle.octets.specs.Octets.{written};
 

@@ -1,4 +1,6 @@
 // An outlet of warnings: its meaning, its laws, its calls and their refusals.
+#![tactic(auto)]
+
 ghost use Rattle.std.specs.Prelude.{◌≡◌, ℕ, ◌≤◌, List, length, is_ok, if◌then◌else◌};
 ghost use Rattle.warning.specs.Meaning.{said};
 ghost use Rattle.warning.specs.Notice.{Notice, outline};

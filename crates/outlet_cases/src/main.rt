@@ -1,5 +1,7 @@
 // Reads outlet calls, one to a line, makes them on a rack and on a tape
 // outlet, and prints an answer for each.
+#![tactic(auto)]
+
 use calls::*;
 use rack::Rack;
 use std::alloc::{AllocError, Global};

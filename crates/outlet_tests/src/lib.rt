@@ -1,4 +1,6 @@
 // Tests of the outlets at the edges of the rules.
+#![tactic(auto)]
+
 #[cfg(test)]
 mod tests {
     use outlet::passing::pass;

@@ -1,4 +1,6 @@
 // A store whose segments lie in chains of small blocks, which all slots share.
+#![tactic(auto)]
+
 ghost use Rattle.std.specs.Prelude.{◌≡◌, ◌≤◌};
 ghost use Rattle.store.specs.Meaning.{Counted, units};
 ghost use Rattle.pool.specs.Numbers.{block_count, blocks_for, pool_shape};

@@ -1,4 +1,6 @@
 // An outlet with a place of its own for each warning.
+#![tactic(auto)]
+
 ghost use Rattle.std.specs.Prelude.{◌≡◌, ◌<◌, ◌≤◌, length};
 ghost use Rattle.rack.specs.Numbers.{place_count};
 ghost use Rattle.rack.specs.Placed.{Long, Right};

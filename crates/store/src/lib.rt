@@ -1,4 +1,6 @@
 // A store of segments: its meaning, its laws, its calls and their refusals.
+#![tactic(auto)]
+
 ghost use Rattle.std.specs.Prelude.{◌≡◌, ℕ, ◌≤◌, length, is_ok, if◌then◌else◌};
 ghost use Rattle.store.specs.Meaning.{Held, Shape, Lawful, Placed, nothing, segment, units, with_segment, without_slot};
 ghost use Rattle.store.specs.Outcomes.{put_outcome, drop_outcome, cost_outcome, units_outcome, held_outcome, lengths_outcome, equals_outcome, copy_outcome, copied};

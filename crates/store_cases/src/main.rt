@@ -1,5 +1,7 @@
 // Reads store calls, one to a line, makes them on berths and on a pool, and
 // prints an answer for each.
+#![tactic(auto)]
+
 use berths::Berths;
 use calls::*;
 use pool::Pool;

@@ -1,4 +1,6 @@
 // Tests of the stores at the edges of the rules.
+#![tactic(auto)]
+
 #[cfg(test)]
 mod tests {
     use berths::Berths;

@@ -1,4 +1,6 @@
 // Warnings on tape: writing one, reading a tape, and both round trips.
+#![tactic(auto)]
+
 pub mod cursor;
 pub mod fault;
 pub mod heads;

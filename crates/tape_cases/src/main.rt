@@ -1,5 +1,7 @@
 // Lists many tapes that come on standard input, each after its length of four
 // octets. What is printed is compared with the listings of another program.
+#![tactic(auto)]
+
 use anyhow::anyhow;
 use listing::list::list;
 use std::alloc::Global;

@@ -1,4 +1,6 @@
 // Lists the warnings of a tape that comes on standard input.
+#![tactic(auto)]
+
 use listing::list::list;
 use std::io::Read;
 

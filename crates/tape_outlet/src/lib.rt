@@ -1,4 +1,6 @@
 // An outlet that keeps its warnings as octets in the tape format.
+#![tactic(auto)]
+
 ghost use Rattle.std.specs.Prelude.{◌≡◌, ◌≤◌, true, length, take};
 ghost use Rattle.tape.specs.Format.{encode_all};
 ghost use Rattle.tape.specs.Promises.{all_warnings};

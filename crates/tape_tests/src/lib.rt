@@ -1,4 +1,6 @@
 // Tests of the warnings' judging and of the tape, at the edges.
+#![tactic(auto)]
+
 #[cfg(test)]
 mod tests {
     use std::alloc::{AllocError, Global};

@@ -1,5 +1,7 @@
 // The vocabulary of public warnings: pairs, radios, networks, warnings, and
 // the judging of what is no warning, with its refusals.
+#![tactic(auto)]
+
 ghost use Rattle.std.specs.Prelude.{◌≡◌, length, is_ok};
 ghost use Rattle.std.specs.Option.{option_map};
 ghost use Rattle.warning.specs.Notice.{outline};

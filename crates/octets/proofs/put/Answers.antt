@@ -6,5 +6,5 @@ pub returns : goal.returns
 returns c =
     record {
       next = refl;
-      after = written-part c.args.memory.now c.args.octets.now _ c.args.at c.copy-from-slice.ensures.after;
+      after = written-part c.args.memory.now c.args.octets.now _ c.args.at c.copy_from_slice.ensures.after;
     }
