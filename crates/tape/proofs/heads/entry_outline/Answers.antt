@@ -8,35 +8,35 @@ use Rattle.tape.proofs.Splits.{from_err, from_ok}
 use Rattle.tape.proofs.Fronts.{by_primary, by_message, by_unknown}
 use Rattle.tape.proofs.heads.entry_outline.Goals as goal
 
-pub returns-in-err-command : goal.returns-in-err-command
+pub returns-in_err-command : goal.returns-in_err-command
 unfolding entry_outline
-returns-in-err-command c =
-    let p = err_from_is_err_and c.from-residual.result c.from-residual.ensures.1 in
-    rw (p.1, p.2) (record { value = from_err (octet (λ x. true) (stands c.args.input)) _ _ c.in-err-command.ensures.value; within = tt })
+returns-in_err-command c =
+    let p = err_from_is_err_and c.from_residual.result c.from_residual.ensures.1 in
+    rw (p.1, p.2) (record { value = from_err (octet (λ x. true) (stands c.args.input)) _ _ c.in_err-command.ensures.value; within = tt })
 
 pub returns-in-80 : goal.returns-in-80
 unfolding entry_outline
 returns-in-80 c =
     record {
-      value = from_ok (octet (λ x. true) (stands c.args.input)) _ _ _ _ c.in-ok-command.ensures.value
-          (c.primary-outline.ensures.value ∙ by_primary c.in-ok-command.command c.args.input.at (stands c.in-ok-command.rest) (omega (arith, eqb-true)));
-      within = c.primary-outline.ensures.within;
+      value = from_ok (octet (λ x. true) (stands c.args.input)) _ _ _ _ c.in_ok-command.ensures.value
+          (c.primary_outline.ensures.value ∙ by_primary c.in_ok-command.command c.args.input.at (stands c.in_ok-command.rest) (omega (arith, eqb-true)));
+      within = c.primary_outline.ensures.within;
     }
 
 pub returns-in-77 : goal.returns-in-77
 unfolding entry_outline
 returns-in-77 c =
     record {
-      value = from_ok (octet (λ x. true) (stands c.args.input)) _ _ _ _ c.in-ok-command.ensures.value
-          (c.message-outline.ensures.value ∙ by_message c.in-ok-command.command c.args.input.at (stands c.in-ok-command.rest) (omega (arith, eqb-true)));
-      within = c.message-outline.ensures.within;
+      value = from_ok (octet (λ x. true) (stands c.args.input)) _ _ _ _ c.in_ok-command.ensures.value
+          (c.message_outline.ensures.value ∙ by_message c.in_ok-command.command c.args.input.at (stands c.in_ok-command.rest) (omega (arith, eqb-true)));
+      within = c.message_outline.ensures.within;
     }
 
-pub returns-in-default : goal.returns-in-default
+pub returns-in_default : goal.returns-in_default
 unfolding entry_outline
-returns-in-default c =
+returns-in_default c =
     record {
-      value = from_ok (octet (λ x. true) (stands c.args.input)) _ _ _ _ c.in-ok-command.ensures.value
-          (by_unknown c.in-ok-command.command c.args.input.at (stands c.in-ok-command.rest) (λ e. omega (arith, eqb-false)) (λ e. omega (arith, eqb-false)));
+      value = from_ok (octet (λ x. true) (stands c.args.input)) _ _ _ _ c.in_ok-command.ensures.value
+          (by_unknown c.in_ok-command.command c.args.input.at (stands c.in_ok-command.rest) (λ e. omega (arith, eqb-false)) (λ e. omega (arith, eqb-false)));
       within = tt;
     }

@@ -3,8 +3,8 @@ use Rattle.std.proofs.lemmas.Bool.{ltb-false, ltb-true}
 use Rattle.tape.proofs.Splits.{octet_none, octet-first, within_rest}
 use Rattle.tape.proofs.operands.any_octet.Goals as goal
 
-pub returns-in-default : goal.returns-in-default
-returns-in-default c =
+pub returns-in_default : goal.returns-in_default
+returns-in_default c =
     record {
       value = ap Err c.ended.ensures ∙ sym (octet_none _ c.args.input.at c.args.input.rest.now (omega (arith, ltb-false, ltb-true)));
       within = tt;

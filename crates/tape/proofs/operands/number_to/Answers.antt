@@ -10,6 +10,6 @@ returns-then-value-most c =
 pub returns : goal.returns
 returns c =
     record {
-      value = sym (number_to-first c.args.most c.args.input.at c.from-value.result c.args.input.rest.now (omega (arith, ltb-false, ltb-true)) (omega arith) (c.from-value.ensures ∙ c.from-be-bytes.ensures) c.if-value-most.false);
+      value = sym (number_to-first c.args.most c.args.input.at c.from-value.result c.args.input.rest.now (omega (arith, ltb-false, ltb-true)) (omega arith) (c.from-value.ensures ∙ c.from_be_bytes.ensures) c.if-value-most.false);
       within = within_rest c.args.input.at 2 c.args.input.rest.now c.requires (omega (arith, ltb-false, ltb-true));
     }

@@ -7,40 +7,40 @@ use Rattle.tape.specs.Reading.{number_to, octet, most_flag, most_area, message_d
 use Rattle.tape.proofs.Splits.{from_err, from_ok, agrees_same}
 use Rattle.tape.proofs.read.message_lengths.Goals as goal
 
-pub returns-in-err-flag : goal.returns-in-err-flag
-returns-in-err-flag c =
-    let p = err_from_is_err_and c.from-residual-in-err-flag.result c.from-residual-in-err-flag.ensures.1 in
-    let m = rw c.octet-limit.ensures at c.in-ok-message.ensures.value in
-    let f = rw c.most-flag.ensures at c.in-err-flag.ensures.value in
+pub returns-in_err-flag : goal.returns-in_err-flag
+returns-in_err-flag c =
+    let p = err_from_is_err_and c.from_residual-in_err-flag.result c.from_residual-in_err-flag.ensures.1 in
+    let m = rw c.octet_limit.ensures at c.in_ok-message.ensures.value in
+    let f = rw c.most_flag.ensures at c.in_err-flag.ensures.value in
     rw (p.1, p.2) (record {
       value = sym (from_ok (number_to (limit c.args.block) (stands c.args.input)) _ _ _ _ m
-          (from_err (octet (λ x. leb x (most_flag c.args.block)) (stands c.in-ok-message.rest)) _ _ f));
+          (from_err (octet (λ x. leb x (most_flag c.args.block)) (stands c.in_ok-message.rest)) _ _ f));
       within = tt;
     })
 
-pub returns-in-err-area : goal.returns-in-err-area
-returns-in-err-area c =
-    let p = err_from_is_err_and c.from-residual-in-err-area.result c.from-residual-in-err-area.ensures.1 in
-    let m = rw c.octet-limit.ensures at c.in-ok-message.ensures.value in
-    let f = rw c.most-flag.ensures at c.in-ok-flag.ensures.value in
-    let a = rw c.most-area.ensures at c.in-err-area.ensures.value in
+pub returns-in_err-area : goal.returns-in_err-area
+returns-in_err-area c =
+    let p = err_from_is_err_and c.from_residual-in_err-area.result c.from_residual-in_err-area.ensures.1 in
+    let m = rw c.octet_limit.ensures at c.in_ok-message.ensures.value in
+    let f = rw c.most_flag.ensures at c.in_ok-flag.ensures.value in
+    let a = rw c.most_area.ensures at c.in_err-area.ensures.value in
     rw (p.1, p.2) (record {
       value = sym (from_ok (number_to (limit c.args.block) (stands c.args.input)) _ _ _ _ m
-          (from_ok (octet (λ x. leb x (most_flag c.args.block)) (stands c.in-ok-message.rest)) _ _ _ _ f
-          (from_err (number_to (most_area c.args.block c.in-ok-message.message c.in-ok-flag.flag) (stands c.in-ok-flag.rest)) _ _ a)));
+          (from_ok (octet (λ x. leb x (most_flag c.args.block)) (stands c.in_ok-message.rest)) _ _ _ _ f
+          (from_err (number_to (most_area c.args.block c.in_ok-message.message c.in_ok-flag.flag) (stands c.in_ok-flag.rest)) _ _ a)));
       within = tt;
     })
 
 pub returns : goal.returns
 returns c =
-    let m = rw c.octet-limit.ensures at c.in-ok-message.ensures.value in
-    let f = rw c.most-flag.ensures at c.in-ok-flag.ensures.value in
-    let a = rw c.most-area.ensures at c.in-ok-area.ensures.value in
+    let m = rw c.octet_limit.ensures at c.in_ok-message.ensures.value in
+    let f = rw c.most_flag.ensures at c.in_ok-flag.ensures.value in
+    let a = rw c.most_area.ensures at c.in_ok-area.ensures.value in
     record {
-      value = agrees_same owned _ _ c.message-data.result
+      value = agrees_same owned _ _ c.message_data.result
           (sym (from_ok (number_to (limit c.args.block) (stands c.args.input)) _ _ _ _ m
-          (from_ok (octet (λ x. leb x (most_flag c.args.block)) (stands c.in-ok-message.rest)) _ _ _ _ f
-          (from_ok (number_to (most_area c.args.block c.in-ok-message.message c.in-ok-flag.flag) (stands c.in-ok-flag.rest)) _ _ _ _ a refl))))
-          c.message-data.ensures.value;
-      within = c.message-data.ensures.within;
+          (from_ok (octet (λ x. leb x (most_flag c.args.block)) (stands c.in_ok-message.rest)) _ _ _ _ f
+          (from_ok (number_to (most_area c.args.block c.in_ok-message.message c.in_ok-flag.flag) (stands c.in_ok-flag.rest)) _ _ _ _ a refl))))
+          c.message_data.ensures.value;
+      within = c.message_data.ensures.within;
     }

@@ -13,8 +13,8 @@ returns c =
     let l = length-pieces octets in
     let s = length-append head (pieces octets) in
     let a = c.put-next.ensures in
-    let b = c.put-part-next.ensures in
-    let d = c.put-part.ensures in
-    let t = then-written c.args.memory.now c.put-next.new.memory c.put-part-next.new.memory head (pieces octets) c.args.at c.put-next.result a.after b.after a.next (omega arith) in
-    let u = then-written c.args.memory.now c.put-part-next.new.memory c.put-part.new.memory (head ++ pieces octets) (pieces area) c.args.at c.put-part-next.result t d.after (omega arith) (omega arith) in
+    let b = c.put_part-next.ensures in
+    let d = c.put_part.ensures in
+    let t = then-written c.args.memory.now c.put-next.new.memory c.put_part-next.new.memory head (pieces octets) c.args.at c.put-next.result a.after b.after a.next (omega arith) in
+    let u = then-written c.args.memory.now c.put_part-next.new.memory c.put_part.new.memory (head ++ pieces octets) (pieces area) c.args.at c.put_part-next.result t d.after (omega arith) (omega arith) in
     record { next = omega arith; after = rw (append_assoc head (pieces octets) (pieces area)) at u }

@@ -9,17 +9,17 @@ pub loop-left-preserved : goal.loop-left-preserved
 loop-left-preserved c =
     let left = c.loop-left.left.now in
     let inv = c.loop-left.invariant in
-    let put = c.put-piece-next.ensures in
+    let put = c.put_piece-next.ensures in
     let size : length (take (length left - 32) (drop 32 left)) ≡ length left - 32 = rw take_rest (length-drop 32 left) in (
-      part-more c.loop-left.memory c.put-piece-next.new.memory left c.loop-left.next c.put-piece-next.result (omega arith) (omega arith) put.after put.next ∙ inv.0,
+      part-more c.loop-left.memory c.put_piece-next.new.memory left c.loop-left.next c.put_piece-next.result (omega arith) (omega arith) put.after put.next ∙ inv.0,
       rw size (omega arith),
       rw size (omega arith),
     )
 
-pub returns-then-is-empty : goal.returns-then-is-empty
-returns-then-is-empty c =
+pub returns-then-is_empty : goal.returns-then-is_empty
+returns-then-is_empty c =
     let left = c.loop-left.left.now in
-    let zero : length left ≡ 0 = eqb-true _ _ (sym c.if-is-empty.ensures) in
+    let zero : length left ≡ 0 = eqb-true _ _ (sym c.if-is_empty.ensures) in
     let nil = nil_from_length left zero in
     let inv = rw (nil, pieces_none, written_none) at c.loop-left.invariant.0 in
     record { next = omega arith; after = inv }
@@ -27,6 +27,6 @@ returns-then-is-empty c =
 pub returns : goal.returns
 returns c =
     let left = c.loop-left.left.now in
-    let some = eqb-false (length left) 0 (sym c.if-is-empty.ensures) in
+    let some = eqb-false (length left) 0 (sym c.if-is_empty.ensures) in
     let inv = rw (pieces_last left (omega arith) (omega arith)) at c.loop-left.invariant.0 in
-    record { next = omega arith; after = c.put-piece.ensures.after ∙ inv }
+    record { next = omega arith; after = c.put_piece.ensures.after ∙ inv }

@@ -9,14 +9,14 @@ use Rattle.tape.proofs.Lists.{written_push, written_all, item_more, item_split, 
 use Rattle.tape.proofs.Whole.{reads_back}
 use Rattle.tape.proofs.write_all.write_all.Goals as goal
 
-pub returns-in-err-append : goal.returns-in-err-append
-returns-in-err-append c =
-    let p = err_from_is_err_and c.from-residual.result c.from-residual.ensures.1 in
+pub returns-in_err-append : goal.returns-in_err-append
+returns-in_err-append c =
+    let p = err_from_is_err_and c.from_residual.result c.from_residual.ensures.1 in
     let xs = c.args.warnings.now in
     let i = c.loop-w.w-index in
-    let split = item_split xs i c.w-item.result (said c.as-warning.result) c.loop-w-test.true c.w-item.is c.as-warning.ensures in
+    let split = item_split xs i c.w-item.result (said c.as_warning.result) c.loop-w-test.true c.w-item.is c.as_warning.ensures in
     rw (p.1, p.2) (record {
-      value = append_err (map owned (take i xs)) (said c.as-warning.result) (map owned (drop (i + 1) xs)) (map owned xs) (vec_items c.loop-w.tape) (vec_items c.append.new.tape) _ split c.loop-w.invariant c.in-err-append.ensures;
+      value = append_err (map owned (take i xs)) (said c.as_warning.result) (map owned (drop (i + 1) xs)) (map owned xs) (vec_items c.loop-w.tape) (vec_items c.append.new.tape) _ split c.loop-w.invariant c.in_err-append.ensures;
       reads_back = tt;
     })
 
@@ -24,9 +24,9 @@ pub loop-w-preserved : goal.loop-w-preserved
 loop-w-preserved c =
     let xs = c.args.warnings.now in
     let i = c.loop-w.w-index in
-    let done = c.in-ok-append.ensures in
-    let w = said c.as-warning.result in
-    ap written (item_more xs i c.w-item.result w c.loop-w-test.true c.w-item.is c.as-warning.ensures)
+    let done = c.in_ok-append.ensures in
+    let w = said c.as_warning.result in
+    ap written (item_more xs i c.w-item.result w c.loop-w-test.true c.w-item.is c.as_warning.ensures)
     ∙ written_push (map owned (take i xs)) w (vec_items c.loop-w.tape) c.loop-w.invariant done.0
     ∙ ap Ok (sym done.1)
 

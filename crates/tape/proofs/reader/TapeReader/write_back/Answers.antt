@@ -11,12 +11,12 @@ use Rattle.tape.proofs.reader.TapeReader.write_back.Goals as goal
 pub returns : goal.returns
 returns c =
     let self = c.args.self.now in
-    let written = c.write-all.result in
-    let items : c.as-slice.result.now ≡ vec_items self.read = c.as-slice.ensures.value in
-    let value = subst (λ (ws : List WarningBuf). WrittenAs (map owned ws) written) items c.write-all.ensures.value in
+    let written = c.write_all.result in
+    let items : c.as_slice.result.now ≡ vec_items self.read = c.as_slice.ensures.value in
+    let value = subst (λ (ws : List WarningBuf). WrittenAs (map owned ws) written) items c.write_all.ensures.value in
     record {
       same = back_same (read_so_far self) _ written self.written value;
-      reads_back = subst (λ (ws : List WarningBuf). IfOk written (λ tape. read_tape (vec_items tape) ≡ Ok (map owned ws))) items c.write-all.ensures.reads-back;
-      round-trips = (reads_back, writes_back);
+      reads_back = subst (λ (ws : List WarningBuf). IfOk written (λ tape. read_tape (vec_items tape) ≡ Ok (map owned ws))) items c.write_all.ensures.reads_back;
+      round_trips = (reads_back, writes_back);
       wanting = back_wanting (read_so_far self) written self.right value;
     }
