@@ -52,7 +52,7 @@ impl<K> Entry<K> {
 
 // Where the key stands.
 pub fn find<K: Key>(xs: &[Entry<K>], key: &K) -> Option<usize>
-    ensures value { result ≡ place same key.now xs.now }
+    ensures value { result ≡ place K.same key.now xs.now }
     ensures found { Found key.now xs.now result }
 {
     for (i, e) in xs.iter().enumerate() {
@@ -73,7 +73,7 @@ pub fn oldest<K: Key>(xs: &[Entry<K>]) -> Option<usize>
 
 // Where the oldest entry of the key's group stands.
 pub fn oldest_of_group<K: Key>(xs: &[Entry<K>], key: &K) -> Option<usize>
-    ensures value { result ≡ place grouped key.now xs.now }
+    ensures value { result ≡ place K.grouped key.now xs.now }
     ensures within { IfSome result (λ i. i < length xs.now) }
 {
     for (i, e) in xs.iter().enumerate() {
@@ -86,7 +86,7 @@ pub fn oldest_of_group<K: Key>(xs: &[Entry<K>], key: &K) -> Option<usize>
 
 // How many entries are of the key's group.
 pub fn count_of_group<K: Key>(xs: &[Entry<K>], key: &K) -> usize
-    ensures { result ≡ count_of grouped key.now xs.now }
+    ensures { result ≡ count_of K.grouped key.now xs.now }
 {
     let mut count = 0;
     for held in xs {

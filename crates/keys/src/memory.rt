@@ -20,7 +20,7 @@ pub fn place_to_free<K: Key>(
     capacity: usize,
     key: &K,
 ) -> Option<usize>
-    ensures value { result ≡ makes_way grouped most capacity key.now xs.now }
+    ensures value { result ≡ makes_way K.grouped most capacity key.now xs.now }
     ensures within { IfSome result (λ i. i < length xs.now) }
 {
     if count_of_group(xs, key) >= most {
@@ -39,8 +39,8 @@ fn make_room<K: Key>(xs: &mut [Entry<K>], count: usize, most: usize, key: &K) ->
     requires some { 0 < length xs.old }
     requires group { 0 < most }
     ensures free { result < length xs.old }
-    ensures count { result ≡ length (room_for grouped most (length xs.old) key.now (take count xs.old)) }
-    ensures after { take result xs.new ≡ room_for grouped most (length xs.old) key.now (take count xs.old) }
+    ensures count { result ≡ length (room_for K.grouped most (length xs.old) key.now (take count xs.old)) }
+    ensures after { take result xs.new ≡ room_for K.grouped most (length xs.old) key.now (take count xs.old) }
 {
     let capacity = xs.len();
     let all = &*xs;
@@ -65,11 +65,11 @@ pub fn remember<K: Key>(
     requires held { count.old ≤ length xs.old }
     requires some { 0 < length xs.old }
     requires group { 0 < most }
-    ensures answer { result ≡ memory_of same key (take count.old xs.old) }
-    ensures after { take count.new xs.new ≡ remembered same grouped most (length xs.old) key clock (take count.old xs.old) }
+    ensures answer { result ≡ memory_of K.same key (take count.old xs.old) }
+    ensures after { take count.new xs.new ≡ remembered K.same K.grouped most (length xs.old) key clock (take count.old xs.old) }
     ensures held { count.new ≤ length xs.old }
-    ensures apart { AtMost 1 same (take count.old xs.old) → AtMost 1 same (take count.new xs.new) }
-    ensures few { AtMost most grouped (take count.old xs.old) → AtMost most grouped (take count.new xs.new) }
+    ensures apart { AtMost 1 K.same (take count.old xs.old) → AtMost 1 K.same (take count.new xs.new) }
+    ensures few { AtMost most K.grouped (take count.old xs.old) → AtMost most K.grouped (take count.new xs.new) }
 {
     let held = *count;
     let all = &*xs;

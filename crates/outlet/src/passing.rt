@@ -16,10 +16,10 @@ pub fn pass<O: Outlet>(
     w: Warning<'_>,
     buffer: &mut [u8],
 ) -> Result<Outline, OutletFault>
-    ensures value { Ready (warnings outlet.old) (length buffer.old) → result ≡ pass_outcome (outline (said w.entry)) }
-    ensures empty { Ready (warnings outlet.old) (length buffer.old) → warnings outlet.new ≡ [] }
-    ensures copied { Ready (warnings outlet.old) (length buffer.old) → buffer.new ≡ (if is_ok result then written 0 (octets (said w.entry)) buffer.old else buffer.old) }
-    ensures same { room outlet.new ≡ room outlet.old }
+    ensures value { Ready (O.warnings outlet.old) (length buffer.old) → result ≡ pass_outcome (outline (said w.entry)) }
+    ensures empty { Ready (O.warnings outlet.old) (length buffer.old) → O.warnings outlet.new ≡ [] }
+    ensures copied { Ready (O.warnings outlet.old) (length buffer.old) → buffer.new ≡ (if is_ok result then written 0 (octets (said w.entry)) buffer.old else buffer.old) }
+    ensures same { O.room outlet.new ≡ O.room outlet.old }
 {
     outlet.give(w)?;
     outlet.take(buffer)

@@ -2,13 +2,13 @@ use Rattle.std.proofs.Common.{◌≡◌, sym, arith}
 use Rattle.std.proofs.lemmas.List.{take_all}
 use Rattle.keys.proofs.Places.{count_step}
 use Rattle.keys.proofs.count_of_group.Goals as goal
-use Rattle.keys.proofs.count_of_group.Goals.{then-is-grouped-with, else-is-grouped-with}
+use Rattle.keys.proofs.count_of_group.Goals.{then-is_grouped_with, else-is_grouped_with}
 
 pub loop-held-preserved : goal.loop-held-preserved
 loop-held-preserved g c =
-    elim c.if-is-grouped-with.branch [
-      | then-is-grouped-with w ↦ let s = count_step g.K.Key.grouped c.args.key.now c.args.xs.now c.loop-held.held-index c.held-item.result _ (omega arith) c.held-item.is w.if-is-grouped-with.ensures in (omega (arith, w.count-is), omega (arith, w.count-is))
-      | else-is-grouped-with w ↦ let s = count_step g.K.Key.grouped c.args.key.now c.args.xs.now c.loop-held.held-index c.held-item.result _ (omega arith) c.held-item.is w.if-is-grouped-with.ensures in (omega (arith, w.count-is), omega (arith, w.count-is))
+    elim c.if-is_grouped_with.branch [
+      | then-is_grouped_with w ↦ let s = count_step g.K.Key.grouped c.args.key.now c.args.xs.now c.loop-held.held-index c.held-item.result _ (omega arith) c.held-item.is w.if-is-grouped-with.ensures in (omega (arith, w.count-is), omega (arith, w.count-is))
+      | else-is_grouped_with w ↦ let s = count_step g.K.Key.grouped c.args.key.now c.args.xs.now c.loop-held.held-index c.held-item.result _ (omega arith) c.held-item.is w.if-is-grouped-with.ensures in (omega (arith, w.count-is), omega (arith, w.count-is))
     ]
 
 pub returns : goal.returns

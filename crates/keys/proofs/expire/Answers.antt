@@ -3,15 +3,15 @@ use Rattle.std.proofs.lemmas.List.Filters.{FiltersInPlace-more_set, FiltersInPla
 use Rattle.std.proofs.lemmas.Bool.{not_from_true, not_from_false}
 use Rattle.keys.proofs.Expiry.{expired_all}
 use Rattle.keys.proofs.expire.Goals as goal
-use Rattle.keys.proofs.expire.Goals.{then-is-old, else-is-old}
+use Rattle.keys.proofs.expire.Goals.{then-is_old, else-is_old}
 
 pub loop-i-preserved : goal.loop-i-preserved
 loop-i-preserved g c =
     let inv = c.loop-i.invariant in
     let len = c.loop-i.auto.xs in
-    elim c.if-is-old.branch [
-      | then-is-old w ↦ (rw (w.xs-is, w.to-is) (FiltersInPlace-more_no inv.0 (omega arith) (not_from_true _ (sym w.if-is-old.ensures)) c.index-xs-i.is), omega arith)
-      | else-is-old w ↦ (rw (w.xs-is, w.to-is) (FiltersInPlace-more_set inv.0 (omega arith) (not_from_false _ (sym w.if-is-old.ensures)) c.index-xs-i.is), omega arith)
+    elim c.if-is_old.branch [
+      | then-is_old w ↦ (rw (w.xs-is, w.to-is) (FiltersInPlace-more_no inv.0 (omega arith) (not_from_true _ (sym w.if-is-old.ensures)) c.index-xs-i.is), omega arith)
+      | else-is_old w ↦ (rw (w.xs-is, w.to-is) (FiltersInPlace-more_set inv.0 (omega arith) (not_from_false _ (sym w.if-is-old.ensures)) c.index-xs-i.is), omega arith)
     ]
 
 pub returns : goal.returns

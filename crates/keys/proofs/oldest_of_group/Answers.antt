@@ -11,7 +11,7 @@ returns-then-is-grouped-with g c =
 
 pub loop-i-preserved : goal.loop-i-preserved
 loop-i-preserved g c =
-    sym (place_step g.K.Key.grouped c.args.key.now c.args.xs.now c.loop-i.i c.index-xs-i.result _ c.loop-i-test.true c.index-xs-i.is c.if-is-grouped-with.ensures) ∙ c.loop-i.invariant
+    sym (place_step g.K.Key.grouped c.args.key.now c.args.xs.now c.loop-i.i c.index-xs-i.result _ c.loop-i-test.true c.index-xs-i.is c.if-is_grouped_with.ensures) ∙ c.loop-i.invariant
 
 pub returns : goal.returns
 returns g c =

@@ -26,7 +26,7 @@ returns g c =
     let O = g.O.Outlet in
     let s₀ = c.args.outlet.now in
     let s₁ = c.give.new.self in
-    let e = c.in-ok-give.ensures in
+    let e = c.in_ok-give.ensures in
     let t = c.take.ensures in
     record {
       value = λ ready. passed_value (O.room s₀) (O.warnings s₀) (O.warnings s₁) (said c.args.w) c.take.result c.args.buffer.now e.value e.after t.value ready;

@@ -12,4 +12,4 @@ returns-in-Message c =
     let fit = rw c.in-Message.is at c.requires in
     rw c.in-Message.is
     (then-written m₀ m₁ c.put-in-Message.new.memory c.in-Message.message.now _ 0 c.put-next.result first.after
-    (second.after ∙ ap (λ z. written c.put-next.result z m₁) c.optional-octets-in-Message.ensures) first.next (omega arith))
+    (second.after ∙ ap (λ z. written c.put-next.result z m₁) c.optional_octets-in-Message.ensures) first.next (omega arith))
