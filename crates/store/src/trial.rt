@@ -13,9 +13,9 @@ fn put_two<S: Store>(
     second: &[u8],
     area: Option<&[u8]>,
 ) -> Result<(), StoreFault>
-    ensures value { result ≡ two_outcome (shape store.old) (held store.old) slot (segment first.now area.entry) (segment second.now area.entry) }
-    ensures rest { without_slot (held store.new) slot ≡ without_slot (held store.old) slot }
-    ensures same { shape store.new ≡ shape store.old }
+    ensures value { result ≡ two_outcome (S.shape store.old) (S.held store.old) slot (segment first.now area.entry) (segment second.now area.entry) }
+    ensures rest { without_slot (S.held store.new) slot ≡ without_slot (S.held store.old) slot }
+    ensures same { S.shape store.new ≡ S.shape store.old }
 {
     store.put(slot, 0, first, area)?;
     store.put(slot, 1, second, area)
@@ -30,10 +30,10 @@ pub fn try_two<S: Store>(
     second: &[u8],
     area: Option<&[u8]>,
 ) -> Result<(), StoreFault>
-    ensures value { result ≡ two_outcome (shape store.old) (held store.old) slot (segment first.now area.entry) (segment second.now area.entry) }
-    ensures back { Empty (held store.old) slot → held store.new ≡ held store.old }
-    ensures units { Empty (held store.old) slot → units (shape store.new) (held store.new) ≡ units (shape store.old) (held store.old) }
-    ensures same { shape store.new ≡ shape store.old }
+    ensures value { result ≡ two_outcome (S.shape store.old) (S.held store.old) slot (segment first.now area.entry) (segment second.now area.entry) }
+    ensures back { Empty (S.held store.old) slot → S.held store.new ≡ S.held store.old }
+    ensures units { Empty (S.held store.old) slot → units (S.shape store.new) (S.held store.new) ≡ units (S.shape store.old) (S.held store.old) }
+    ensures same { S.shape store.new ≡ S.shape store.old }
 {
     let outcome = put_two(store, slot, first, second, area);
     let _ = store.drop_slot(slot);

@@ -7,8 +7,8 @@ use Rattle.keys.proofs.count_of_group.Goals.{then-is_grouped_with, else-is_group
 pub loop-held-preserved : goal.loop-held-preserved
 loop-held-preserved g c =
     elim c.if-is_grouped_with.branch [
-      | then-is_grouped_with w ↦ let s = count_step g.K.Key.grouped c.args.key.now c.args.xs.now c.loop-held.held-index c.held-item.result _ (omega arith) c.held-item.is w.if-is-grouped-with.ensures in (omega (arith, w.count-is), omega (arith, w.count-is))
-      | else-is_grouped_with w ↦ let s = count_step g.K.Key.grouped c.args.key.now c.args.xs.now c.loop-held.held-index c.held-item.result _ (omega arith) c.held-item.is w.if-is-grouped-with.ensures in (omega (arith, w.count-is), omega (arith, w.count-is))
+      | then-is_grouped_with w ↦ let s = count_step g.K.Key.grouped c.args.key.now c.args.xs.now c.loop-held.held-index c.held-item.result _ (omega arith) c.held-item.is w.if-is_grouped_with.ensures in (omega (arith, w.count-is), omega (arith, w.count-is))
+      | else-is_grouped_with w ↦ let s = count_step g.K.Key.grouped c.args.key.now c.args.xs.now c.loop-held.held-index c.held-item.result _ (omega arith) c.held-item.is w.if-is_grouped_with.ensures in (omega (arith, w.count-is), omega (arith, w.count-is))
     ]
 
 pub returns : goal.returns

@@ -10,8 +10,8 @@ loop-i-preserved g c =
     let inv = c.loop-i.invariant in
     let len = c.loop-i.auto.xs in
     elim c.if-is_old.branch [
-      | then-is_old w ↦ (rw (w.xs-is, w.to-is) (FiltersInPlace-more_no inv.0 (omega arith) (not_from_true _ (sym w.if-is-old.ensures)) c.index-xs-i.is), omega arith)
-      | else-is_old w ↦ (rw (w.xs-is, w.to-is) (FiltersInPlace-more_set inv.0 (omega arith) (not_from_false _ (sym w.if-is-old.ensures)) c.index-xs-i.is), omega arith)
+      | then-is_old w ↦ (rw (w.xs-is, w.to-is) (FiltersInPlace-more_no inv.0 (omega arith) (not_from_true _ (sym w.if-is_old.ensures)) c.index-xs-i.is), omega arith)
+      | else-is_old w ↦ (rw (w.xs-is, w.to-is) (FiltersInPlace-more_set inv.0 (omega arith) (not_from_false _ (sym w.if-is_old.ensures)) c.index-xs-i.is), omega arith)
     ]
 
 pub returns : goal.returns

@@ -4,9 +4,9 @@ use Rattle.keys.specs.Entries.{first_from, like}
 use Rattle.keys.proofs.Places.{place_step}
 use Rattle.keys.proofs.oldest_of_group.Goals as goal
 
-pub returns-then-is-grouped-with : goal.returns-then-is-grouped-with
-returns-then-is-grouped-with g c =
-    let step = place_step g.K.Key.grouped c.args.key.now c.args.xs.now c.loop-i.i c.index-xs-i.result _ c.loop-i-test.true c.index-xs-i.is c.if-is-grouped-with.ensures in
+pub returns-then-is_grouped_with : goal.returns-then-is_grouped_with
+returns-then-is_grouped_with g c =
+    let step = place_step g.K.Key.grouped c.args.key.now c.args.xs.now c.loop-i.i c.index-xs-i.result _ c.loop-i-test.true c.index-xs-i.is c.if-is_grouped_with.ensures in
     record { value = sym step ∙ c.loop-i.invariant; within = c.loop-i-test.true }
 
 pub loop-i-preserved : goal.loop-i-preserved

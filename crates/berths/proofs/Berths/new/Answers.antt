@@ -7,8 +7,8 @@ use Rattle.berths.proofs.Berths.new.Goals as goal
 abbrev vacant : Berth
 vacant = record { lengths = None; octets = replicate berth_octets 0 }
 
-pub invariant-of-result : goal.invariant-of-result
-invariant-of-result c = (refl, (refl, (new_long vacant berth_count refl, (new_fitting vacant berth_count refl, (new_counted _ (held_none vacant refl), tt)))))
+pub invariant_of-result : goal.invariant_of-result
+invariant_of-result c = record { all = refl; slots = refl; long = new_long vacant berth_count refl; fitting = new_fitting vacant berth_count refl; counted = new_counted _ (held_none vacant refl) }
 
 pub returns : goal.returns
 returns c = held_none vacant refl

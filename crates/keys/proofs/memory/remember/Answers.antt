@@ -42,7 +42,7 @@ returns g c =
     let law = g.met.K.Key in
     let held = take c.args.count.now c.args.xs.now in
     let is = simp sub-zero at c.in_default.ensures.value in
-    let room = c.make-room-left.ensures in
+    let room = c.make_room-left.ensures in
     let t = c.store.ensures ∙ ap (stored_last key clock) room.after in
     let after = t ∙ ap (λ o. stored_last key clock (without (option_or o (makes_way grouped most (length c.args.xs.now) key held)) held)) is in
     record {

@@ -10,17 +10,17 @@ use Rattle.std.proofs.lemmas.Bool.Decides.{Decides-eqb}
 
 pub returns-in-Some : goal.returns-in-Some
 returns-in-Some g c =
-    let r = c.list-entries.new.reader in
-    let same : whole_tape r ≡ c.args.tape.now = c.list-entries.ensures.tape ∙ c.new-reader.ensures.tape in
-    let left = subst (λ (o : Option TapeFault). Left (stands_at r) o) c.in-Some.is c.in-ok-fault.ensures.left in
+    let r = c.list_entries.new.reader in
+    let same : whole_tape r ≡ c.args.tape.now = c.list_entries.ensures.tape ∙ c.new-reader.ensures.tape in
+    let left = subst (λ (o : Option TapeFault). Left (stands_at r) o) c.in-Some.is c.in_ok-fault.ensures.left in
     ap read_tape (sym same) ∙ ends_refused (whole_tape r) r.at (read_so_far r) c.in-Some.fault (reached r) left.0 left.1
 
 pub returns : goal.returns
 returns g c =
-    let r = c.list-entries.new.reader in
-    let same : whole_tape r ≡ c.args.tape.now = c.list-entries.ensures.tape ∙ c.new-reader.ensures.tape in
-    let left = subst (λ (o : Option TapeFault). Left (stands_at r) o) c.in-default.is c.in-ok-fault.ensures.left in
+    let r = c.list_entries.new.reader in
+    let same : whole_tape r ≡ c.args.tape.now = c.list_entries.ensures.tape ∙ c.new-reader.ensures.tape in
+    let left = subst (λ (o : Option TapeFault). Left (stands_at r) o) c.in_default.is c.in_ok-fault.ensures.left in
     let end = ends_whole (whole_tape r) r.at (read_so_far r) (reached r) left in
-    let again : c.as-slice.result.now ≡ c.args.tape.now = c.as-slice.ensures.value ∙ c.in-Ok.ensures.same ∙ end.1 ∙ same in
-    let equal = slice_eq-Decides Decides-eqb c.as-slice.result.now c.args.tape.now c.eq-same.result c.eq-same.ensures in
+    let again : c.as_slice.result.now ≡ c.args.tape.now = c.as_slice.ensures.value ∙ c.in-Ok.ensures.same ∙ end.1 ∙ same in
+    let equal = slice_eq-Decides Decides-eqb c.as_slice.result.now c.args.tape.now c.eq-same.result c.eq-same.ensures in
     (equal.1 again, (read_so_far r, ap read_tape (sym same) ∙ end.0))

@@ -6,18 +6,18 @@ use Rattle.outlet.proofs.Answered.{unchanged}
 use Rattle.outlet.proofs.Through.{refused_pass, passed_value, passed_empty, passed_copied}
 use Rattle.outlet.proofs.passing.pass.Goals as goal
 
-pub returns-in-err-give : goal.returns-in-err-give
-returns-in-err-give g c =
+pub returns-in_err-give : goal.returns-in_err-give
+returns-in_err-give g c =
     let O = g.O.Outlet in
     let s₀ = c.args.outlet.now in
     let o = outline (said c.args.w) in
-    let e = c.in-err-give.ensures in
-    let p = err_from_is_err_and c.from-residual.result c.from-residual.ensures.1 in
+    let e = c.in_err-give.ensures in
+    let p = err_from_is_err_and c.from_residual.result c.from_residual.ensures.1 in
     let is = p.1 ∙ ap Err p.2 in
     record {
-      value = λ ready. refused_pass (O.room s₀) (O.warnings s₀) o (length c.args.buffer.now) c.from-residual.result _ (g.met.O.Outlet.lawful s₀) ready is e.value;
+      value = λ ready. refused_pass (O.room s₀) (O.warnings s₀) o (length c.args.buffer.now) c.from_residual.result _ (g.met.O.Outlet.lawful s₀) ready is e.value;
       empty = λ ready. e.after ∙ ready.0;
-      copied = λ ready. unchanged c.from-residual.result _ _ _ is;
+      copied = λ ready. unchanged c.from_residual.result _ _ _ is;
       same = e.same;
     }
 

@@ -12,8 +12,8 @@ pub lay-self-requires : goal.lay-self-requires
 lay-self-requires c =
     let s = sound c.args.self.now in
     let seg = segment c.args.message.now c.args.area in
-    let xs = take (c.octet-count-count.result - 0) c.write.new.memory in
-    let e : length xs ≡ count seg = ap length (joined seg _ c.write.new.memory c.octet-count-count.result c.requires.short c.write.ensures c.octet-count-count.ensures) ∙ length-octets seg in
+    let xs = take (c.octet_count-count.result - 0) c.write.new.memory in
+    let e : length xs ≡ count seg = ap length (joined seg _ c.write.new.memory c.octet_count-count.result c.requires.short c.write.ensures c.octet_count-count.ensures) ∙ length-octets seg in
     let k : blocks_for (length xs) ≡ blocks_for (count seg) = ap (λ z. blocks_for z) e in
     let room = c.requires.room in
     record {
@@ -27,26 +27,26 @@ lay-self-requires c =
 pub add-requires : goal.add-requires
 add-requires c =
     let p = c.args.self.now in
-    let k = c.blocks-for.ensures ∙ ap (λ z. blocks_for z) c.octet-count-count.ensures in
+    let k = c.blocks_for.ensures ∙ ap (λ z. blocks_for z) c.octet_count-count.ensures in
     record { low = c.requires.low; all = omega (arith, p.within, c.requires.room); of = slot_used p c.args.slot c.requires.low }
 
-pub invariant-of-self : goal.invariant-of-self
-invariant-of-self c =
+pub invariant_of-self : goal.invariant_of-self
+invariant_of-self c =
     let p = c.args.self.now in
     let seg = segment c.args.message.now c.args.area in
-    let xs = take (c.octet-count-count.result - 0) c.write.new.memory in
-    let x = joined seg _ c.write.new.memory c.octet-count-count.result c.requires.short c.write.ensures c.octet-count-count.ensures in
+    let xs = take (c.octet_count-count.result - 0) c.write.new.memory in
+    let x = joined seg _ c.write.new.memory c.octet_count-count.result c.requires.short c.write.ensures c.octet_count-count.ensures in
     let t : There slot_count c.args.slot c.args.number (c.args.slot * 64 + c.args.number) = record { low = c.requires.low; few = c.requires.few; is = refl } in
-    let k = c.blocks-for.ensures ∙ ap (λ z. blocks_for z) c.octet-count-count.ensures in
-    let same : blocks_for (length xs) ≡ c.blocks-for.result = ap (λ z. blocks_for z) (ap length x ∙ length-octets seg) ∙ sym k in
-    filled-kept p c.args.slot c.args.number _ t c.requires.vacant seg c.requires.short xs x c.of-lengths.result c.of-lengths.ensures c.blocks-for.result k (omega (arith, c.requires.room)) c.lay-self.new.octets c.lay-self.ensures.laid c.lay-self.result (c.lay-self.ensures.rest ∙ ap (λ z. walk p.next p.free z) same) c.add.new.self c.add.ensures
+    let k = c.blocks_for.ensures ∙ ap (λ z. blocks_for z) c.octet_count-count.ensures in
+    let same : blocks_for (length xs) ≡ c.blocks_for.result = ap (λ z. blocks_for z) (ap length x ∙ length-octets seg) ∙ sym k in
+    filled-kept p c.args.slot c.args.number _ t c.requires.vacant seg c.requires.short xs x c.of-lengths.result c.of-lengths.ensures c.blocks_for.result k (omega (arith, c.requires.room)) c.lay-self.new.octets c.lay-self.ensures.laid c.lay-self.result (c.lay-self.ensures.rest ∙ ap (λ z. walk p.next p.free z) same) c.add.new.self c.add.ensures
 
 pub returns : goal.returns
 returns c =
     let p = c.args.self.now in
     let seg = segment c.args.message.now c.args.area in
-    let xs = take (c.octet-count-count.result - 0) c.write.new.memory in
-    let x = joined seg _ c.write.new.memory c.octet-count-count.result c.requires.short c.write.ensures c.octet-count-count.ensures in
+    let xs = take (c.octet_count-count.result - 0) c.write.new.memory in
+    let x = joined seg _ c.write.new.memory c.octet_count-count.result c.requires.short c.write.ensures c.octet_count-count.ensures in
     let t : There slot_count c.args.slot c.args.number (c.args.slot * 64 + c.args.number) = record { low = c.requires.low; few = c.requires.few; is = refl } in
-    let k = c.blocks-for.ensures ∙ ap (λ z. blocks_for z) c.octet-count-count.ensures in
-    filled-holding p c.args.slot c.args.number _ t c.requires.vacant seg c.requires.short xs x c.of-lengths.result c.of-lengths.ensures c.blocks-for.result k (omega (arith, c.requires.room)) c.lay-self.new.octets c.lay-self.ensures.laid
+    let k = c.blocks_for.ensures ∙ ap (λ z. blocks_for z) c.octet_count-count.ensures in
+    filled-holding p c.args.slot c.args.number _ t c.requires.vacant seg c.requires.short xs x c.of-lengths.result c.of-lengths.ensures c.blocks_for.result k (omega (arith, c.requires.room)) c.lay-self.new.octets c.lay-self.ensures.laid

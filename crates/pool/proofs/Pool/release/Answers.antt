@@ -8,12 +8,12 @@ use Rattle.pool.specs.Tables.{sound, held_at, fits_at, inside_at}
 use Rattle.pool.proofs.Keeping.{enough, enough_in, released_holding, released_kept}
 use Rattle.pool.proofs.Pool.release.Goals as goal
 
-pub returns-in-default : goal.returns-in-default
-returns-in-default c =
+pub returns-in_default : goal.returns-in_default
+returns-in_default c =
     let p = c.args.self.now in
     let i = c.args.slot * 64 + c.args.number in
     let t : There slot_count c.args.slot c.args.number i = record { low = c.requires.low; few = c.requires.few; is = refl } in
-    replaced-same (holding p) c.args.slot c.args.number None (held_at p.octets p.next p.places c.args.slot c.args.number i t ∙ ap (laid_at p.octets p.next) (sym c.in-default.ensures))
+    replaced-same (holding p) c.args.slot c.args.number None (held_at p.octets p.next p.places c.args.slot c.args.number i t ∙ ap (laid_at p.octets p.next) (sym c.in_default.ensures))
 
 pub count-requires : goal.count-requires
 count-requires c =
@@ -21,11 +21,11 @@ count-requires c =
     let low : c.args.slot * 64 + c.args.number < place_count = omega (arith, c.requires.low, c.requires.few) in
     fits_at p.places p.octets p.next p.free p.used.all (sound p) _ low c.in-Some.place (sym c.in-Some.ensures)
 
-pub link-end-requires : goal.link-end-requires
-link-end-requires c =
+pub link_end-requires : goal.link_end-requires
+link_end-requires c =
     let p = c.args.self.now in
     let low : c.args.slot * 64 + c.args.number < place_count = omega (arith, c.requires.low, c.requires.few) in
-    let k = c.blocks-for-cost.ensures ∙ ap (λ z. blocks_for z) c.count.ensures in
+    let k = c.blocks_for-cost.ensures ∙ ap (λ z. blocks_for z) c.count.ensures in
     record {
       all = (sound p).links;
       some = omega arith;
@@ -36,21 +36,21 @@ pub subtract-requires : goal.subtract-requires
 subtract-requires c =
     let p = c.args.self.now in
     let t : There slot_count c.args.slot c.args.number (c.args.slot * 64 + c.args.number) = record { low = c.requires.low; few = c.requires.few; is = refl } in
-    let k = c.blocks-for-cost.ensures ∙ ap (λ z. blocks_for z) c.count.ensures in
+    let k = c.blocks_for-cost.ensures ∙ ap (λ z. blocks_for z) c.count.ensures in
     record {
       low = c.requires.low;
-      all = enough p c.args.slot c.args.number _ t c.in-Some.place (sym c.in-Some.ensures) c.blocks-for-cost.result k;
-      of = enough_in p c.args.slot c.args.number _ t c.in-Some.place (sym c.in-Some.ensures) c.blocks-for-cost.result k;
+      all = enough p c.args.slot c.args.number _ t c.in-Some.place (sym c.in-Some.ensures) c.blocks_for-cost.result k;
+      of = enough_in p c.args.slot c.args.number _ t c.in-Some.place (sym c.in-Some.ensures) c.blocks_for-cost.result k;
     }
 
-pub invariant-of-self : goal.invariant-of-self
-invariant-of-self c =
+pub invariant_of-self : goal.invariant_of-self
+invariant_of-self c =
     let p = c.args.self.now in
     let t : There slot_count c.args.slot c.args.number (c.args.slot * 64 + c.args.number) = record { low = c.requires.low; few = c.requires.few; is = refl } in
-    released_kept p c.args.slot c.args.number _ t c.in-Some.place (sym c.in-Some.ensures) c.blocks-for-cost.result (c.blocks-for-cost.ensures ∙ ap (λ z. blocks_for z) c.count.ensures) c.link-end.new.next c.link-end.ensures c.subtract.new.self c.subtract.ensures
+    released_kept p c.args.slot c.args.number _ t c.in-Some.place (sym c.in-Some.ensures) c.blocks_for-cost.result (c.blocks_for-cost.ensures ∙ ap (λ z. blocks_for z) c.count.ensures) c.link_end.new.next c.link_end.ensures c.subtract.new.self c.subtract.ensures
 
 pub returns : goal.returns
 returns c =
     let p = c.args.self.now in
     let t : There slot_count c.args.slot c.args.number (c.args.slot * 64 + c.args.number) = record { low = c.requires.low; few = c.requires.few; is = refl } in
-    released_holding p c.args.slot c.args.number _ t c.in-Some.place (sym c.in-Some.ensures) c.blocks-for-cost.result (c.blocks-for-cost.ensures ∙ ap (λ z. blocks_for z) c.count.ensures) c.link-end.new.next c.link-end.ensures
+    released_holding p c.args.slot c.args.number _ t c.in-Some.place (sym c.in-Some.ensures) c.blocks_for-cost.result (c.blocks_for-cost.ensures ∙ ap (λ z. blocks_for z) c.count.ensures) c.link_end.new.next c.link_end.ensures

@@ -9,8 +9,8 @@ pub loop-i-init : goal.loop-i-init
 loop-i-init c =
     (sym (walk_none c.args.next.now c.args.first), gather_none c.args.octets.now c.args.next.now c.args.first c.args.count c.args.memory.now)
 
-pub overflow-mul-at : goal.overflow-mul-at
-overflow-mul-at c = omega (arith, c.requires.inside c.loop-i.i (omega (arith, c.blocks-for-blocks.ensures)), c.loop-i.invariant.0)
+pub overflow_mul-at : goal.overflow_mul-at
+overflow_mul-at c = omega (arith, c.requires.inside c.loop-i.i (omega (arith, c.blocks_for-blocks.ensures)), c.loop-i.invariant.0)
 
 pub loop-i-preserved : goal.loop-i-preserved
 loop-i-preserved c =
@@ -19,7 +19,7 @@ loop-i-preserved c =
     let next = c.args.next.now in
     let first = c.args.first in
     let octets = c.args.octets.now in
-    let low = c.blocks-for-blocks.ensures in
+    let low = c.blocks_for-blocks.ensures in
     let short : i * 32 ≤ n = omega arith in
     let at = c.from-at.result in
     let is : at ≡ walk next first i = c.from-at.ensures ∙ c.loop-i.invariant.0 in
@@ -35,5 +35,5 @@ loop-i-preserved c =
 
 pub returns : goal.returns
 returns c =
-    let end : c.loop-i.i ≡ blocks_for c.args.count = omega (arith, c.blocks-for-blocks.ensures) in
+    let end : c.loop-i.i ≡ blocks_for c.args.count = omega (arith, c.blocks_for-blocks.ensures) in
     c.loop-i.invariant.1 ∙ ap (λ k. written 0 (take c.args.count (gathered c.args.octets.now c.args.next.now c.args.first k)) c.args.memory.now) end

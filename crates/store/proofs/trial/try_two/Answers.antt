@@ -8,11 +8,11 @@ pub returns : goal.returns
 returns g c =
     let S = g.S.Store in
     let s₀ = c.args.store.now in
-    let s₂ = c.put-two-outcome.new.store in
-    let s₃ = c.drop-slot.new.self in
+    let s₂ = c.put_two-outcome.new.store in
+    let s₃ = c.drop_slot.new.self in
     let law = g.met.S.Store.placed in
-    let e = c.put-two-outcome.ensures in
-    let d = c.drop-slot.ensures in
+    let e = c.put_two-outcome.ensures in
+    let d = c.drop_slot.ensures in
     let same : S.shape s₃ ≡ S.shape s₀ = d.same ∙ e.same in
     let held : Empty (S.held s₀) c.args.slot → S.held s₃ ≡ S.held s₀ = λ none. back (S.shape s₂) (S.held s₀) (S.held s₂) (S.held s₃) c.args.slot _ none e.rest (law s₂ c.args.slot) d.value d.after in
     record {

@@ -8,8 +8,8 @@ use Rattle.tape_outlet.specs.Holding.{holding}
 use Rattle.tape_outlet.specs.Kept.{kept, first-cost, kept_less, kept_held, kept_right, kept-written, moved}
 use Rattle.tape_outlet.proofs.TapeOutlet.remove_oldest.Goals as goal
 
-pub copy-within-requires : goal.copy-within-requires
-copy-within-requires c =
+pub copy_within-requires : goal.copy_within-requires
+copy_within-requires c =
     let s = c.args.self.now in
     let o = c.args.outline in
     let t = take s.used s.octets in
@@ -18,8 +18,8 @@ copy-within-requires c =
     let long = length-take-le s.used s.octets (omega (arith, s.all, s.within)) in
     record { start-le-end = omega (arith, n, low, long); in_bounds = omega (arith, s.all, s.within); dest-in-bounds = omega (arith, s.all, s.within); not-exhausted = tt }
 
-pub overflow-sub-self : goal.overflow-sub-self
-overflow-sub-self c =
+pub overflow_sub-self : goal.overflow_sub-self
+overflow_sub-self c =
     let s = c.args.self.now in
     let o = c.args.outline in
     let t = take s.used s.octets in
@@ -27,8 +27,8 @@ overflow-sub-self c =
     let low = first-cost t (holding s) o (kept t s.right s.written) c.requires in
     omega (arith, n, low, length-take-le s.used s.octets (omega (arith, s.all, s.within)))
 
-pub invariant-of-self : goal.invariant-of-self
-invariant-of-self c =
+pub invariant_of-self : goal.invariant_of-self
+invariant_of-self c =
     let s = c.args.self.now in
     let o = c.args.outline in
     let t = take s.used s.octets in
@@ -37,10 +37,7 @@ invariant-of-self c =
     let low = first-cost t (holding s) o k c.requires in
     let long = length-take-le s.used s.octets (omega (arith, s.all, s.within)) in
     let less = kept_less t (holding s) o k c.requires in
-    let t₁ = moved s.octets c.copy-within.new.self c.in-Ok.freed s.used (omega (arith, n, low, long)) (omega (arith, s.all, s.within)) c.copy-within.ensures.after ∙ ap (λ z. drop z t) n in (
-      c.copy-within.ensures.len ∙ s.all,
-      (omega (arith, s.within), (ap (λ z. all_warnings (read_as z)) t₁ ∙ kept_right _ _ less, (ap (λ z. encode_all (read_as z)) t₁ ∙ kept-written _ _ less ∙ sym t₁, tt))),
-    )
+    let t₁ = moved s.octets c.copy_within.new.self c.in-Ok.freed s.used (omega (arith, n, low, long)) (omega (arith, s.all, s.within)) c.copy_within.ensures.after ∙ ap (λ z. drop z t) n in record { all = c.copy_within.ensures.len ∙ s.all; within = omega (arith, s.within); right = ap (λ z. all_warnings (read_as z)) t₁ ∙ kept_right _ _ less; written = ap (λ z. encode_all (read_as z)) t₁ ∙ kept-written _ _ less ∙ sym t₁; }
 
 pub returns : goal.returns
 returns c =
@@ -51,5 +48,5 @@ returns c =
     let n = costed-cost o c.in-Ok.freed c.in-Ok.ensures.value in
     let low = first-cost t (holding s) o k c.requires in
     let long = length-take-le s.used s.octets (omega (arith, s.all, s.within)) in
-    let t₁ = moved s.octets c.copy-within.new.self c.in-Ok.freed s.used (omega (arith, n, low, long)) (omega (arith, s.all, s.within)) c.copy-within.ensures.after ∙ ap (λ z. drop z t) n in
+    let t₁ = moved s.octets c.copy_within.new.self c.in-Ok.freed s.used (omega (arith, n, low, long)) (omega (arith, s.all, s.within)) c.copy_within.ensures.after ∙ ap (λ z. drop z t) n in
     ap read_as t₁ ∙ kept_held _ _ (kept_less t (holding s) o k c.requires)

@@ -8,23 +8,23 @@ use Rattle.berths.specs.Holding.{holding}
 use Rattle.berths.specs.Laying.{held_at, lies_none, lies_some, fits_some}
 use Rattle.berths.proofs.calls.BerthsStore.copy_out.Goals as goal
 
-pub returns-in-default : goal.returns-in-default
-returns-in-default c =
+pub returns-in_default : goal.returns-in_default
+returns-in_default c =
     let s = c.args.self.now in
-    let i = c.in-ok-i.i in
-    let t = there slot_count c.args.slot c.args.number _ c.in-ok-i.ensures in
+    let i = c.in_ok-i.i in
+    let t = there slot_count c.args.slot c.args.number _ c.in_ok-i.ensures in
     record {
-      value = not_held berths_shape (holding s) c.args.slot c.args.number i t _ (held_at s.berths c.args.slot c.args.number i t ∙ lies_none (berth s.berths i) (sym c.in-default.ensures));
+      value = not_held berths_shape (holding s) c.args.slot c.args.number i t _ (held_at s.berths c.args.slot c.args.number i t ∙ lies_none (berth s.berths i) (sym c.in_default.ensures));
       after = refl;
     }
 
 pub returns-then-memory-count : goal.returns-then-memory-count
 returns-then-memory-count c =
     let s = c.args.self.now in
-    let i = c.in-ok-i.i in
+    let i = c.in_ok-i.i in
     let l = c.in-Some.lengths in
     let b = berth s.berths i in
-    let t = there slot_count c.args.slot c.args.number _ c.in-ok-i.ensures in
+    let t = there slot_count c.args.slot c.args.number _ c.in_ok-i.ensures in
     let fit = fits_some s.berths i l s.fitting (sym c.in-Some.ensures) in
     let long = s.long i (omega (arith, t.low, t.few, t.is)) in
     let size = ap count_of (lengths_standing l b.octets (omega arith)) in
@@ -38,10 +38,10 @@ returns-then-memory-count c =
 pub returns : goal.returns
 returns c =
     let s = c.args.self.now in
-    let i = c.in-ok-i.i in
+    let i = c.in_ok-i.i in
     let l = c.in-Some.lengths in
     let b = berth s.berths i in
-    let t = there slot_count c.args.slot c.args.number _ c.in-ok-i.ensures in
+    let t = there slot_count c.args.slot c.args.number _ c.in_ok-i.ensures in
     let fit = fits_some s.berths i l s.fitting (sym c.in-Some.ensures) in
     let long = s.long i (omega (arith, t.low, t.few, t.is)) in
     let enough : count_of l ≤ length b.octets = omega arith in

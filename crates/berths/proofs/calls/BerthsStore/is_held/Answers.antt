@@ -9,6 +9,6 @@ use Rattle.berths.proofs.calls.BerthsStore.is_held.Goals as goal
 pub returns : goal.returns
 returns c =
     let s = c.args.self.now in
-    let t = there slot_count c.args.slot c.args.number _ c.in-ok-i.ensures in
-    let i = c.in-ok-i.i in
-    held_told berths_shape (holding s) c.args.slot c.args.number i t _ (c.is-some.ensures ∙ ap option_is_some c.lengths-at.ensures ∙ is_some (berth s.berths i) ∙ ap option_is_some (sym (held_at s.berths c.args.slot c.args.number i t)))
+    let t = there slot_count c.args.slot c.args.number _ c.in_ok-i.ensures in
+    let i = c.in_ok-i.i in
+    held_told berths_shape (holding s) c.args.slot c.args.number i t _ (c.is_some.ensures ∙ ap option_is_some c.lengths_at.ensures ∙ is_some (berth s.berths i) ∙ ap option_is_some (sym (held_at s.berths c.args.slot c.args.number i t)))

@@ -11,10 +11,10 @@ use Rattle.berths.proofs.calls.BerthsStore.lengths.Goals as goal
 pub returns-in-Some : goal.returns-in-Some
 returns-in-Some c =
     let s = c.args.self.now in
-    let i = c.in-ok-i.i in
+    let i = c.in_ok-i.i in
     let l = c.in-Some.lengths in
     let b = berth s.berths i in
-    let t = there slot_count c.args.slot c.args.number _ c.in-ok-i.ensures in
+    let t = there slot_count c.args.slot c.args.number _ c.in_ok-i.ensures in
     let fit = fits_some s.berths i l s.fitting (sym c.in-Some.ensures) in
     let long = s.long i (omega (arith, t.low, t.few, t.is)) in
     of_held berths_shape (holding s) c.args.slot c.args.number i t (λ seg. Ok (lengths_of seg)) (standing l b.octets) _
@@ -24,6 +24,6 @@ returns-in-Some c =
 pub returns-in-None : goal.returns-in-None
 returns-in-None c =
     let s = c.args.self.now in
-    let i = c.in-ok-i.i in
-    let t = there slot_count c.args.slot c.args.number _ c.in-ok-i.ensures in
+    let i = c.in_ok-i.i in
+    let t = there slot_count c.args.slot c.args.number _ c.in_ok-i.ensures in
     not_held berths_shape (holding s) c.args.slot c.args.number i t _ (held_at s.berths c.args.slot c.args.number i t ∙ lies_none (berth s.berths i) (sym c.in-None.ensures))

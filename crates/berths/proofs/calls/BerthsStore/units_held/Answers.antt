@@ -3,13 +3,13 @@ use Rattle.berths.specs.Holding.{holding}
 use Rattle.berths.specs.Laying.{units_three, slot_most}
 use Rattle.berths.proofs.calls.BerthsStore.units_held.Goals as goal
 
-pub overflow-add-result : goal.overflow-add-result
-overflow-add-result c =
+pub overflow_add-result : goal.overflow_add-result
+overflow_add-result c =
     let s = c.args.self.now in
     omega (arith, s.counted 0 (omega arith), s.counted 1 (omega arith), slot_most (holding s) 0, slot_most (holding s) 1)
 
-pub overflow-add-result-2 : goal.overflow-add-result-2
-overflow-add-result-2 c =
+pub overflow_add-result-2 : goal.overflow_add-result-2
+overflow_add-result-2 c =
     let s = c.args.self.now in
     omega (arith, s.counted 0 (omega arith), s.counted 1 (omega arith), s.counted 2 (omega arith), slot_most (holding s) 0, slot_most (holding s) 1, slot_most (holding s) 2)
 

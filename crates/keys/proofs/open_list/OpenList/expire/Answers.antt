@@ -15,12 +15,12 @@ returns c =
       after = simp sub-zero (front_left s.count c.expire-gone.result s.entries c.expire-gone.new.xs _ (omega arith) len called.after);
     }
 
-pub invariant-of-self : goal.invariant-of-self
-invariant-of-self c =
+pub invariant_of-self : goal.invariant_of-self
+invariant_of-self c =
     let s = c.args.self.now in
     let held = take s.count s.entries in
     let called = simp sub-zero at c.expire-gone.ensures in
     let len = simp sub-zero at c.expire-gone.auto.xs in
     let long = front_length s.count s.entries c.expire-gone.new.xs len in
     let after = front_left s.count c.expire-gone.result s.entries c.expire-gone.new.xs _ (omega arith) len called.after in
-    (simp sub-zero (omega (arith, long)), (omega arith, (simp sub-zero (at_most_is same_pair 1 _ _ after (at_most_kept same_pair 1 _ held s.apart)), tt)))
+    record { sized = simp sub-zero (omega (arith, long)); within = omega arith; apart = simp sub-zero (at_most_is same_pair 1 _ _ after (at_most_kept same_pair 1 _ held s.apart)) }

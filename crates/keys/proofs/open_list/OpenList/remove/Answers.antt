@@ -14,8 +14,8 @@ returns c =
     let after = front_left s.count 1 s.entries c.remove.new.xs _ (omega arith) len called in
     record { value = rw (sym is) refl; after = simp sub-zero (rw (sym is) after) }
 
-pub invariant-of-self : goal.invariant-of-self
-invariant-of-self c =
+pub invariant_of-self : goal.invariant_of-self
+invariant_of-self c =
     let s = c.args.self.now in
     let held = take s.count s.entries in
     let called = simp sub-zero at c.remove.ensures in
@@ -23,4 +23,4 @@ invariant-of-self c =
     let long = front_length s.count s.entries c.remove.new.xs len in
     let after = front_left s.count 1 s.entries c.remove.new.xs _ (omega arith) len called in
     let apart = at_most_is same_pair 1 _ _ after (at_most_without same_pair 1 (Some c.in-Some.at) held s.apart) in
-    (simp sub-zero (omega (arith, long)), (omega arith, (simp sub-zero apart, tt)))
+    record { sized = simp sub-zero (omega (arith, long)); within = omega arith; apart = simp sub-zero apart }

@@ -16,8 +16,8 @@ returns c =
       after = simp sub-zero (front_left s.count c.expire-gone.result s.entries c.expire-gone.new.xs _ (omega arith) len called.after);
     }
 
-pub invariant-of-self : goal.invariant-of-self
-invariant-of-self c =
+pub invariant_of-self : goal.invariant_of-self
+invariant_of-self c =
     let s = c.args.self.now in
     let held = take s.count s.entries in
     let called = simp sub-zero at c.expire-gone.ensures in
@@ -26,4 +26,4 @@ invariant-of-self c =
     let after = front_left s.count c.expire-gone.result s.entries c.expire-gone.new.xs _ (omega arith) len called.after in
     let apart = at_most_is same_network_pair 1 _ _ after (at_most_kept same_network_pair 1 _ held s.apart) in
     let few = at_most_is of_one_network most_of_network _ _ after (at_most_kept of_one_network most_of_network _ held s.few) in
-    (simp sub-zero (omega (arith, long)), (omega arith, (simp sub-zero apart, (simp sub-zero few, tt))))
+    record { sized = simp sub-zero (omega (arith, long)); within = omega arith; apart = simp sub-zero apart; few = simp sub-zero few }

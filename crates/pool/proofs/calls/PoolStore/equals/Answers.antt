@@ -8,26 +8,26 @@ use Rattle.pool.specs.Holding.{holding}
 use Rattle.pool.specs.Tables.{sound, held_at, laid_some, fits_at, inside_at, enough_at}
 use Rattle.pool.proofs.calls.PoolStore.equals.Goals as goal
 
-pub returns-in-default : goal.returns-in-default
-returns-in-default c =
+pub returns-in_default : goal.returns-in_default
+returns-in_default c =
     let s = c.args.self.now in
-    let i = c.in-ok-i.i in
-    let t = there slot_count c.args.slot c.args.number i c.in-ok-i.ensures in
-    not_held pool_shape (holding s) c.args.slot c.args.number i t _ (held_at s.octets s.next s.places c.args.slot c.args.number i t ∙ ap (laid_at s.octets s.next) (sym c.in-default.ensures))
+    let i = c.in_ok-i.i in
+    let t = there slot_count c.args.slot c.args.number i c.in_ok-i.ensures in
+    not_held pool_shape (holding s) c.args.slot c.args.number i t _ (held_at s.octets s.next s.places c.args.slot c.args.number i t ∙ ap (laid_at s.octets s.next) (sym c.in_default.ensures))
 
 pub count-count-requires : goal.count-count-requires
 count-count-requires c =
     let s = c.args.self.now in
-    let i = c.in-ok-i.i in
-    let t = there slot_count c.args.slot c.args.number i c.in-ok-i.ensures in
+    let i = c.in_ok-i.i in
+    let t = there slot_count c.args.slot c.args.number i c.in_ok-i.ensures in
     let low : i < place_count = omega (arith, t.low, t.few, t.is) in
     fits_at s.places s.octets s.next s.free s.used.all (sound s) i low c.in-Some.place (sym c.in-Some.ensures)
 
 pub gather-requires : goal.gather-requires
 gather-requires c =
     let s = c.args.self.now in
-    let i = c.in-ok-i.i in
-    let t = there slot_count c.args.slot c.args.number i c.in-ok-i.ensures in
+    let i = c.in_ok-i.i in
+    let t = there slot_count c.args.slot c.args.number i c.in_ok-i.ensures in
     let low : i < place_count = omega (arith, t.low, t.few, t.is) in
     let at = sym c.in-Some.ensures in
     let fit = fits_at s.places s.octets s.next s.free s.used.all (sound s) i low c.in-Some.place at in
@@ -43,9 +43,9 @@ gather-requires c =
 pub returns : goal.returns
 returns c =
     let s = c.args.self.now in
-    let i = c.in-ok-i.i in
+    let i = c.in_ok-i.i in
     let q = c.in-Some.place in
-    let t = there slot_count c.args.slot c.args.number i c.in-ok-i.ensures in
+    let t = there slot_count c.args.slot c.args.number i c.in_ok-i.ensures in
     let low : i < place_count = omega (arith, t.low, t.few, t.is) in
     let at = sym c.in-Some.ensures in
     let given = segment c.args.message.now c.args.area in

@@ -9,7 +9,7 @@ use Rattle.pool.proofs.calls.PoolStore.is_held.Goals as goal
 pub returns : goal.returns
 returns c =
     let s = c.args.self.now in
-    let i = c.in-ok-i.i in
-    let t = there slot_count c.args.slot c.args.number i c.in-ok-i.ensures in
+    let i = c.in_ok-i.i in
+    let t = there slot_count c.args.slot c.args.number i c.in_ok-i.ensures in
     held_told pool_shape (holding s) c.args.slot c.args.number i t _
-    (c.is-some.ensures ∙ ap option_is_some c.place-at.ensures ∙ is_some s.octets s.next (place s.places i) ∙ ap option_is_some (sym (held_at s.octets s.next s.places c.args.slot c.args.number i t)))
+    (c.is_some.ensures ∙ ap option_is_some c.place_at.ensures ∙ is_some s.octets s.next (place s.places i) ∙ ap option_is_some (sym (held_at s.octets s.next s.places c.args.slot c.args.number i t)))

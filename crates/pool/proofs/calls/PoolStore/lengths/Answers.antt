@@ -10,9 +10,9 @@ use Rattle.pool.proofs.calls.PoolStore.lengths.Goals as goal
 pub returns-in-Some : goal.returns-in-Some
 returns-in-Some c =
     let s = c.args.self.now in
-    let i = c.in-ok-i.i in
+    let i = c.in_ok-i.i in
     let q = c.in-Some.place in
-    let t = there slot_count c.args.slot c.args.number i c.in-ok-i.ensures in
+    let t = there slot_count c.args.slot c.args.number i c.in_ok-i.ensures in
     let low : i < place_count = omega (arith, t.low, t.few, t.is) in
     let at = sym c.in-Some.ensures in
     of_held pool_shape (holding s) c.args.slot c.args.number i t (λ seg. Ok (lengths_of seg)) _ _
@@ -22,7 +22,7 @@ returns-in-Some c =
 pub returns-in-None : goal.returns-in-None
 returns-in-None c =
     let s = c.args.self.now in
-    let i = c.in-ok-i.i in
-    let t = there slot_count c.args.slot c.args.number i c.in-ok-i.ensures in
+    let i = c.in_ok-i.i in
+    let t = there slot_count c.args.slot c.args.number i c.in_ok-i.ensures in
     not_held pool_shape (holding s) c.args.slot c.args.number i t _
     (held_at s.octets s.next s.places c.args.slot c.args.number i t ∙ ap (laid_at s.octets s.next) (sym c.in-None.ensures))

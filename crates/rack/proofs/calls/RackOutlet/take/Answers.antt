@@ -10,8 +10,8 @@ returns c =
     let o = c.in-Some.outline in
     let told = c.in-Some.ensures in
     record {
-      value = sym (take_long (holding s) (length c.args.buffer.now) _ c.in-ok-check-buffer.ensures ∙ some_taken (holding s) o told);
+      value = sym (take_long (holding s) (length c.args.buffer.now) _ c.in_ok-check_buffer.ensures ∙ some_taken (holding s) o told);
       after = without_oldest s.places s.oldest _ s.count (some_held s.places s.oldest s.count o told) refl;
-      copied = c.copy-oldest.ensures;
+      copied = c.copy_oldest.ensures;
       same = refl;
     }

@@ -13,8 +13,8 @@ use Rattle.tape_outlet.specs.Holding.{holding}
 use Rattle.tape_outlet.specs.Kept.{kept, used_costs, ended, kept_more, kept_held, kept_right, kept-written, give_wrote, give_refused}
 use Rattle.tape_outlet.proofs.calls.TapeOutletOutlet.give.Goals as goal
 
-pub invariant-of-self : goal.invariant-of-self
-invariant-of-self c =
+pub invariant_of-self : goal.invariant_of-self
+invariant_of-self c =
     let s = c.args.self.now in
     let w = said c.args.w in
     let t = take s.used s.octets in
@@ -24,13 +24,7 @@ invariant-of-self c =
     let right = judged_right (outline w) p.0 in
     let size = length-encode w right in
     let t₁ = ended s.octets c.write.new.memory (encode w) s.used c.in-Ok.end (omega (arith, s.all, s.within)) (omega (arith, p.1, size)) c.in-Ok.ensures.after in
-    let more = kept_more t (holding s) w k right in (
-      ap length c.in-Ok.ensures.after ∙ length-written s.octets (encode w) s.used (omega (arith, s.all, s.within, p.3, size)) ∙ s.all,
-      (
-        omega (arith, s.all, s.within, p.1, p.3),
-        (ap (λ z. all_warnings (read_as z)) t₁ ∙ kept_right _ _ more, (ap (λ z. encode_all (read_as z)) t₁ ∙ kept-written _ _ more ∙ sym t₁, tt)),
-      ),
-    )
+    let more = kept_more t (holding s) w k right in record { all = ap length c.in-Ok.ensures.after ∙ length-written s.octets (encode w) s.used (omega (arith, s.all, s.within, p.3, size)) ∙ s.all; within = omega (arith, s.all, s.within, p.1, p.3); right = ap (λ z. all_warnings (read_as z)) t₁ ∙ kept_right _ _ more; written = ap (λ z. encode_all (read_as z)) t₁ ∙ kept-written _ _ more ∙ sym t₁; }
 
 pub returns-in-Ok : goal.returns-in-Ok
 returns-in-Ok c =
@@ -57,7 +51,7 @@ returns-in-Err c =
     let k = kept t s.right s.written in
     let free : length s.octets - s.used ≡ units_free tape_room (holding s) = omega (arith, s.all, used_costs s.octets s.used (holding s) s.all s.within k) in
     record {
-      value = ap Err c.as-outlet-fault.ensures ∙ give_refused (holding s) (outline w) (length s.octets - s.used) s.used free c.in-Err.fault c.in-Err.ensures.value;
+      value = ap Err c.as_outlet_fault.ensures ∙ give_refused (holding s) (outline w) (length s.octets - s.used) s.used free c.in-Err.fault c.in-Err.ensures.value;
       after = ap (λ z. read_as (take s.used z)) c.in-Err.ensures.after;
       same = refl;
     }
