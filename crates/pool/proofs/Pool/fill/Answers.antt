@@ -39,7 +39,8 @@ invariant_of-self c =
     let t : There slot_count c.args.slot c.args.number (c.args.slot * 64 + c.args.number) = record { low = c.requires.low; few = c.requires.few; is = refl } in
     let k = c.blocks_for.ensures ∙ ap (λ z. blocks_for z) c.octet_count-count.ensures in
     let same : blocks_for (length xs) ≡ c.blocks_for.result = ap (λ z. blocks_for z) (ap length x ∙ length-octets seg) ∙ sym k in
-    filled-kept p c.args.slot c.args.number _ t c.requires.vacant seg c.requires.short xs x c.of-lengths.result c.of-lengths.ensures c.blocks_for.result k (omega (arith, c.requires.room)) c.lay-self.new.octets c.lay-self.ensures.laid c.lay-self.result (c.lay-self.ensures.rest ∙ ap (λ z. walk p.next p.free z) same) c.add.new.self c.add.ensures
+    let kept = filled-kept p c.args.slot c.args.number _ t c.requires.vacant seg c.requires.short xs x c.of-lengths.result c.of-lengths.ensures c.blocks_for.result k (omega (arith, c.requires.room)) c.lay-self.new.octets c.lay-self.ensures.laid c.lay-self.result (c.lay-self.ensures.rest ∙ ap (λ z. walk p.next p.free z) same) c.add.new.self c.add.ensures in
+    record { long = kept.0; within = kept.1.0; inside = kept.1.1.0; apart = kept.1.1.1.0; fitting = kept.1.1.1.1.0; all = kept.1.1.1.1.1.0; counted = kept.1.1.1.1.1.1.0 }
 
 pub returns : goal.returns
 returns c =

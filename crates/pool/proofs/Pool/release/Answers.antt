@@ -47,7 +47,8 @@ pub invariant_of-self : goal.invariant_of-self
 invariant_of-self c =
     let p = c.args.self.now in
     let t : There slot_count c.args.slot c.args.number (c.args.slot * 64 + c.args.number) = record { low = c.requires.low; few = c.requires.few; is = refl } in
-    released_kept p c.args.slot c.args.number _ t c.in-Some.place (sym c.in-Some.ensures) c.blocks_for-cost.result (c.blocks_for-cost.ensures ∙ ap (λ z. blocks_for z) c.count.ensures) c.link_end.new.next c.link_end.ensures c.subtract.new.self c.subtract.ensures
+    let kept = released_kept p c.args.slot c.args.number _ t c.in-Some.place (sym c.in-Some.ensures) c.blocks_for-cost.result (c.blocks_for-cost.ensures ∙ ap (λ z. blocks_for z) c.count.ensures) c.link_end.new.next c.link_end.ensures c.subtract.new.self c.subtract.ensures in
+    record { long = kept.0; within = kept.1.0; inside = kept.1.1.0; apart = kept.1.1.1.0; fitting = kept.1.1.1.1.0; all = kept.1.1.1.1.1.0; counted = kept.1.1.1.1.1.1.0 }
 
 pub returns : goal.returns
 returns c =
