@@ -5,7 +5,7 @@ ghost use Rattle.std.specs.Option.{option_map, unwrap_or};
 ghost use Rattle.octets.specs.Octets.{written};
 ghost use Rattle.tape.specs.Format.{encode};
 ghost use Rattle.warning.specs.Contents.{octet_count, octets, part_octets};
-ghost use Rattle.warning.specs.Notice.{Notice, outline as outline-of};
+ghost use Rattle.warning.specs.Notice.{Notice, outline as outline_of};
 ghost use Rattle.warning.specs.Rules.{is_warning};
 ghost use Rattle.warning.specs.Numbers.{most_octets};
 ghost use Rattle.tape.specs.Cursors.{stands, gave, Within};
@@ -143,7 +143,7 @@ fn copy_security(
 fn copy_octets(input: Cursor<'_>, outline: Outline, memory: &mut [u8]) -> Result<(), TapeFault>
     requires within { Within input }
     requires fit { octet_count outline ≤ length memory.old }
-    ensures { (w : Notice) (rest : List ℕ) → outline-of w ≡ outline → input.entry.rest.now ≡ data_of w ++ rest → Copied (octets w) memory.old memory.new result }
+    ensures { (w : Notice) (rest : List ℕ) → outline_of w ≡ outline → input.entry.rest.now ≡ data_of w ++ rest → Copied (octets w) memory.old memory.new result }
 {
     match outline {
         Outline::Primary { security, .. } => copy_security(input, security, memory),
@@ -157,7 +157,7 @@ fn copy_octets(input: Cursor<'_>, outline: Outline, memory: &mut [u8]) -> Result
 
 // The outline of the first warning of a tape.
 pub fn first_outline(tape: &[u8]) -> Result<Outline, TapeFault>
-    ensures { (w : Notice) (rest : List ℕ) → is_warning (outline-of w) ≡ true → tape.now ≡ encode w ++ rest → result ≡ Ok (outline-of w) }
+    ensures { (w : Notice) (rest : List ℕ) → is_warning (outline_of w) ≡ true → tape.now ≡ encode w ++ rest → result ≡ Ok (outline_of w) }
 {
     let (outline, _) = entry_outline(Cursor { at: 0, rest: tape })?;
     Ok(outline)
@@ -167,8 +167,8 @@ pub fn first_outline(tape: &[u8]) -> Result<Outline, TapeFault>
 // that has room for every warning, and answers its outline.
 pub fn copy_first(tape: &[u8], memory: &mut [u8]) -> Result<Outline, TapeFault>
     requires { most_octets ≤ length memory.old }
-    ensures value { (w : Notice) (rest : List ℕ) → is_warning (outline-of w) ≡ true → tape.now ≡ encode w ++ rest → result ≡ Ok (outline-of w) }
-    ensures after { (w : Notice) (rest : List ℕ) → is_warning (outline-of w) ≡ true → tape.now ≡ encode w ++ rest → memory.new ≡ written 0 (octets w) memory.old }
+    ensures value { (w : Notice) (rest : List ℕ) → is_warning (outline_of w) ≡ true → tape.now ≡ encode w ++ rest → result ≡ Ok (outline_of w) }
+    ensures after { (w : Notice) (rest : List ℕ) → is_warning (outline_of w) ≡ true → tape.now ≡ encode w ++ rest → memory.new ≡ written 0 (octets w) memory.old }
 {
     let (outline, rest) = entry_outline(Cursor { at: 0, rest: tape })?;
     copy_octets(rest, outline, memory)?;

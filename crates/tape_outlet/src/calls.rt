@@ -100,7 +100,7 @@ impl Outlet for TapeOutlet {
 
     ghost within = { λ s.
         let k = kept (ListN.take s.used s.octets) s.right s.written in
-        omega (arith, used-costs s.octets s.used (holding s) s.all s.within k, s.within) };
+        omega (arith, used_costs s.octets s.used (holding s) s.all s.within k, s.within) };
 
     ghost right = { λ s. each_right (holding s) s.right };
 

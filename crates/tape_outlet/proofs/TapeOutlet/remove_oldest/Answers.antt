@@ -16,7 +16,7 @@ copy_within-requires c =
     let n = costed-cost o c.in-Ok.freed c.in-Ok.ensures.value in
     let low = first-cost t (holding s) o (kept t s.right s.written) c.requires in
     let long = length-take-le s.used s.octets (omega (arith, s.all, s.within)) in
-    record { start-le-end = omega (arith, n, low, long); in_bounds = omega (arith, s.all, s.within); dest-in-bounds = omega (arith, s.all, s.within); not-exhausted = tt }
+    record { start_le_end = omega (arith, n, low, long); in_bounds = omega (arith, s.all, s.within); dest_in_bounds = omega (arith, s.all, s.within); not_exhausted = tt }
 
 pub overflow_sub-self : goal.overflow_sub-self
 overflow_sub-self c =
@@ -37,7 +37,7 @@ invariant_of-self c =
     let low = first-cost t (holding s) o k c.requires in
     let long = length-take-le s.used s.octets (omega (arith, s.all, s.within)) in
     let less = kept_less t (holding s) o k c.requires in
-    let t₁ = moved s.octets c.copy_within.new.self c.in-Ok.freed s.used (omega (arith, n, low, long)) (omega (arith, s.all, s.within)) c.copy_within.ensures.after ∙ ap (λ z. drop z t) n in record { all = c.copy_within.ensures.len ∙ s.all; within = omega (arith, s.within); right = ap (λ z. all_warnings (read_as z)) t₁ ∙ kept_right _ _ less; written = ap (λ z. encode_all (read_as z)) t₁ ∙ kept-written _ _ less ∙ sym t₁; }
+    let t₁ = moved s.octets c.copy_within.new.self c.in-Ok.freed s.used (omega (arith, n, low, long)) (omega (arith, s.all, s.within)) c.copy_within.ensures.after ∙ ap (λ z. drop z t) n in record { all = c.copy_within.ensures.len ∙ s.all; within = omega (arith, s.within); right = ap (λ z. all_warnings (read_as z)) t₁ ∙ kept_right _ _ less; written = ap (λ z. encode_all (read_as z)) t₁ ∙ kept-written _ _ less ∙ sym t₁ }
 
 pub returns : goal.returns
 returns c =

@@ -24,7 +24,7 @@ invariant_of-self c =
     let right = judged_right (outline w) p.0 in
     let size = length-encode w right in
     let t₁ = ended s.octets c.write.new.memory (encode w) s.used c.in-Ok.end (omega (arith, s.all, s.within)) (omega (arith, p.1, size)) c.in-Ok.ensures.after in
-    let more = kept_more t (holding s) w k right in record { all = ap length c.in-Ok.ensures.after ∙ length-written s.octets (encode w) s.used (omega (arith, s.all, s.within, p.3, size)) ∙ s.all; within = omega (arith, s.all, s.within, p.1, p.3); right = ap (λ z. all_warnings (read_as z)) t₁ ∙ kept_right _ _ more; written = ap (λ z. encode_all (read_as z)) t₁ ∙ kept-written _ _ more ∙ sym t₁; }
+    let more = kept_more t (holding s) w k right in record { all = ap length c.in-Ok.ensures.after ∙ length-written s.octets (encode w) s.used (omega (arith, s.all, s.within, p.3, size)) ∙ s.all; within = omega (arith, s.all, s.within, p.1, p.3); right = ap (λ z. all_warnings (read_as z)) t₁ ∙ kept_right _ _ more; written = ap (λ z. encode_all (read_as z)) t₁ ∙ kept-written _ _ more ∙ sym t₁ }
 
 pub returns-in-Ok : goal.returns-in-Ok
 returns-in-Ok c =
