@@ -1,10 +1,9 @@
 -- What a write of one berth does to what the berths hold.
-use Rattle.std.specs.Prelude.{◌≡◌, ℕ, ◌+◌, ◌-◌, ◌*◌, ◌<◌, ◌≤◌, Bool, true, false, cond, ◌&&◌, ltb, ◌≢◌, ◌⊎◌, List, [], length, replicate, is_some as option_is_some, Some, None, Option, nat_eq, nat_lt, slice_set, refl}
+use Rattle.std.specs.Prelude.{◌≡◌, ℕ, ◌+◌, ◌-◌, ◌<◌, ◌≤◌, true, false, cond, ◌&&◌, ltb, ◌≢◌, List, length, replicate, is_some as option_is_some, Some, None, Option, nat_eq, nat_lt, slice_set, refl}
 use Rattle.std.proofs.Common.{sym, ◌∙◌, ⊎_elim, arith}
 use Rattle.std.proofs.Math.Path.{ap, fun_ext}
 use Rattle.std.proofs.lemmas.List.{get_or-set_same, get_or-set_other, get_or-replicate, get_or_past, length-set, length-replicate}
 use Rattle.std.proofs.lemmas.Bool.{cases_eq, cases_lt, eq-eqb, ne_eqb, lt-ltb, le-ltb, and_right, and_left, false≢true}
-use Rattle.octets.specs.Octets.{written}
 use Rattle.octets.proofs.Writes.{length-written}
 use Rattle.store.specs.declared.Lengths.{Lengths}
 use Rattle.store.specs.Meaning.{Segment, Held, Placed, Lawful, Counted, standing, octets, count, count_of, lengths_of, nothing, replaced, paid, sum_below, slot_units, units}

@@ -6,7 +6,7 @@ use Rattle.std.proofs.ByRecursion.{All-weaker}
 use Rattle.std.proofs.lemmas.List.Sums.{sum_by_more}
 use Rattle.std.proofs.lemmas.Bool.{true≢false}
 use Rattle.keys.specs.declared.Entry.{Entry}
-use Rattle.keys.specs.Entries.{first_from, first, like, place, count_of, Found}
+use Rattle.keys.specs.Entries.{first_from, like, place, count_of, Found}
 
 module _ {K : Type 0} (test : K → K → Bool) (key : K) where
   pub place_step : (xs : List (Entry K)) (i : ℕ) (e : Entry K) (b : Bool) → i < length xs → e ≡ get_or xs i e → b ≡ test key e.key → first_from (like test key) i (drop i xs) ≡ cond b (Some i) (first_from (like test key) (i + 1) (drop (i + 1) xs))

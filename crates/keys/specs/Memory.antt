@@ -1,5 +1,5 @@
 -- The rule of a memory that holds few entries of a group, and few in all.
-use Rattle.std.specs.Prelude.{ℕ, ◌≤◌, Bool, cond, List, length, is_some, None, Option, nat_le}
+use Rattle.std.specs.Prelude.{ℕ, Bool, cond, List, length, is_some, None, Option, nat_le}
 use Rattle.std.specs.Option.{option_or}
 use Rattle.keys.specs.declared.Entry.{Entry}
 use Rattle.keys.specs.declared.memory.Memory.{Memory}

@@ -1,5 +1,5 @@
 -- A warning that passes through an outlet that held nothing.
-use Rattle.std.proofs.Common.{◌≡◌, ℕ, ◌≤◌, Bool, true, false, cond, ltb, List, [], ◌∷◌, length, is_ok, Ok, Err, Result, sym, refl, ap, ◌∙◌, arith}
+use Rattle.std.proofs.Common.{◌≡◌, ℕ, ◌≤◌, false, cond, ltb, List, [], ◌∷◌, length, is_ok, Ok, Err, Result, sym, refl, ap, ◌∙◌, arith}
 use Rattle.std.proofs.lemmas.Bool.{le-ltb, cond-false}
 use Rattle.octets.specs.Octets.{written}
 use Rattle.warning.specs.declared.Outline.{Outline}
@@ -12,7 +12,7 @@ use Rattle.warning.proofs.Judging.{judged_right}
 use Rattle.outlet.specs.declared.OutletFault.{OutletFault}
 use Rattle.outlet.specs.declared.OutletFault.TheVariants.{NoWarning}
 use Rattle.outlet.specs.Meaning.{Room, Lawful, units_free}
-use Rattle.outlet.specs.Outcomes.{give_by, give_outcome, with_newest, take_outcome, first_taken, without_first, first_copied}
+use Rattle.outlet.specs.Outcomes.{give_by, give_outcome, with_newest, take_outcome, without_first, first_copied}
 use Rattle.outlet.specs.Passing.{Ready, pass_by, pass_outcome}
 
 clash : {X Y Z : Type 0} (x : X) (y : Y) → ◌≡◌ {A = Result X Y} (Ok x) (Err y) → Z

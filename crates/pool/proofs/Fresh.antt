@@ -1,10 +1,10 @@
 -- A pool that holds nothing: all blocks are free, one after the other.
-use Rattle.std.proofs.Common.{◌≡◌, ℕ, zero, suc, ◌+◌, ◌-◌, ◌<◌, ◌≤◌, Bool, true, false, cond, ◌&&◌, eqb, ltb, ◌⊎◌, List, length, get_or, replicate, Some, None, Option, sym, refl, ap, ◌∙◌, ⊎_elim, add-one, arith}
+use Rattle.std.proofs.Common.{◌≡◌, ℕ, zero, suc, ◌+◌, ◌<◌, ◌≤◌, Bool, true, false, cond, ◌&&◌, eqb, ltb, List, get_or, replicate, None, Option, sym, refl, ap, ◌∙◌, ⊎_elim, add-one, arith}
 use mathlib.Core.Path.{fun_ext}
 use Rattle.std.proofs.lemmas.List.{get_or-replicate, get_or_past, length-replicate}
 use Rattle.std.proofs.lemmas.Bool.{cases_eq, cases_lt, ne_eqb}
 use Rattle.store.specs.Meaning.{Held, Counted, nothing, slot_units, units}
-use Rattle.store.specs.Numbers.{number_count, most_octets}
+use Rattle.store.specs.Numbers.{number_count}
 use Rattle.store.specs.Outcomes.{index}
 use Rattle.store.proofs.Sums.{slot_nothing, units-nothing}
 use Rattle.pool.specs.declared.Place.{Place}

@@ -1,8 +1,8 @@
 -- What a pool's fields fulfil after a segment came or went.
-use Rattle.std.proofs.Common.{◌≡◌, ℕ, ◌+◌, ◌-◌, ◌*◌, ◌<◌, ◌≤◌, List, [], ◌++◌, length, get_or, take, drop, set, is_some as option_is_some, Some, None, Option, sym, refl, ap, ◌∙◌, subst, arith}
-use Rattle.std.proofs.lemmas.List.{get_or-set_same, length-set, take_at}
+use Rattle.std.proofs.Common.{◌≡◌, ℕ, ◌+◌, ◌-◌, ◌<◌, ◌≤◌, List, length, get_or, take, set, is_some as option_is_some, Some, None, Option, sym, refl, ap, ◌∙◌, subst, arith}
+use Rattle.std.proofs.lemmas.List.{length-set, take_at}
 use Rattle.store.specs.declared.Lengths.{Lengths}
-use Rattle.store.specs.Meaning.{Segment, Held, Counted, count, count_of, lengths_of, octets, paid, replaced, slot_units, spread, units}
+use Rattle.store.specs.Meaning.{Segment, Counted, count, count_of, lengths_of, octets, paid, replaced, spread, units}
 use Rattle.store.specs.Numbers.{most_octets}
 use Rattle.store.proofs.Changes.{none_if}
 use Rattle.store.proofs.Places.{There}
@@ -12,10 +12,10 @@ use Rattle.pool.specs.declared.Place.{Place}
 use Rattle.pool.specs.declared.Pool.{Pool}
 use Rattle.pool.specs.declared.Used.{Used}
 use Rattle.pool.specs.Numbers.{slot_count, place_count, block_count, blocks_for, pool_shape}
-use Rattle.pool.specs.Chains.{walk, place, blocks_of, laid_at, held_in, head, size, Long, Inside, Apart, Fitting, Laid, more, less}
+use Rattle.pool.specs.Chains.{walk, place, held_in, head, size, Long, Inside, Apart, Fitting, Laid, more, less}
 use Rattle.pool.specs.Holding.{holding}
 use Rattle.pool.specs.Links.{apart_from}
-use Rattle.pool.specs.Tables.{sound, held_at, is_some, fitting_set, fits_at, inside_at, paid_at}
+use Rattle.pool.specs.Tables.{sound, held_at, is_some, fitting_set, paid_at}
 use Rattle.pool.proofs.Moves.{filled_inside, filled_apart, filled_held, released_inside, released_apart, released_held}
 
 -- the facts of a pool, one after the other

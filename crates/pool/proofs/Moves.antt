@@ -1,17 +1,17 @@
 -- A segment comes into the pool, and goes again.
-use Rattle.std.proofs.Common.{◌≡◌, ℕ, zero, suc, ◌+◌, ◌-◌, ◌*◌, ◌<◌, ◌≤◌, ◌≢◌, ◌⊎◌, List, [], ◌++◌, length, get_or, take, drop, set, Some, None, Option, sym, refl, ap, ◌∙◌, subst, ⊎_elim, arith}
-use Rattle.std.proofs.lemmas.List.{get_or-set_same, get_or-set_other, length-set, take_all, take-append-drop}
+use Rattle.std.proofs.Common.{◌≡◌, ℕ, ◌+◌, ◌-◌, ◌*◌, ◌<◌, ◌≤◌, List, ◌++◌, length, take, drop, set, Some, None, Option, sym, refl, ap, ◌∙◌, subst, arith}
+use Rattle.std.proofs.lemmas.List.{get_or-set_same, take_all, take-append-drop}
 use Rattle.store.specs.declared.Lengths.{Lengths}
 use Rattle.store.specs.Meaning.{Segment, standing, count, count_of, lengths_of, octets, replaced}
 use Rattle.store.specs.Numbers.{most_octets}
 use Rattle.store.proofs.Places.{There}
 use Rattle.store.proofs.Standing.{standing_at, length-octets}
 use Rattle.pool.specs.declared.Place.{Place}
-use Rattle.pool.specs.Numbers.{slot_count, place_count, block_count, block_octets, pool_octets, blocks_for}
-use Rattle.pool.specs.Chains.{walk, gathered, place, blocks_of, laid_at, held_in, head, size, Inside, Apart, Laid}
+use Rattle.pool.specs.Numbers.{slot_count, place_count, block_count, block_octets, blocks_for}
+use Rattle.pool.specs.Chains.{walk, gathered, place, laid_at, held_in, head, size, Inside, Laid}
 use Rattle.pool.specs.Blocks.{gathered-same}
 use Rattle.pool.specs.Links.{Disjoint, taken_inside, taken_apart, freed_inside, freed_apart, walk_other}
-use Rattle.pool.specs.Tables.{Sound, held_changed, laid_same, head-place, size-place, head_other, size_other, fitting_set}
+use Rattle.pool.specs.Tables.{Sound, held_changed, laid_same, head-place, size-place, head_other, size_other}
 
 -- a segment is laid into the first free blocks
 module _ (ps : List (Option Place)) (octs octs' next : List ℕ) (free used : ℕ) (s : Sound ps octs next free used) (slot n i : ℕ) (t : There slot_count slot n i) (vacant : place ps i ≡ None) (seg : Segment) (short : count seg ≤ most_octets) (xs : List ℕ) (x : xs ≡ octets seg) (l : Lengths) (m : l ≡ lengths_of seg) (k : ℕ) (c : k ≡ blocks_for (count seg)) (room : k ≤ block_count - used) (laid : Laid octs octs' next free xs k) where

@@ -4,12 +4,11 @@ use Rattle.std.proofs.Math.Path.{sym, ap}
 use Rattle.std.proofs.Common.{◌∙◌, inl, inr, add-one, take-add}
 use Rattle.std.proofs.Math.Logic.{⊎_elim}
 use native.Mathlib.Omega.{arith}
-use Rattle.std.proofs.lemmas.List.{take_at, take_all, take-take, take-append-le, take-append-drop, drop_at, drop-append-le, drop-drop, drop-take, append_assoc, length-append, length-take, length-take-le, length-drop}
+use Rattle.std.proofs.lemmas.List.{take_at, take_all, take-take, take-append-le, drop_at, drop-append-le, drop-drop, drop-take, append_assoc, length-append, length-take-le, length-drop}
 use Rattle.std.proofs.lemmas.Bool.{cases_lt, cases_order}
 use Rattle.octets.specs.Octets.{written}
 use Rattle.octets.proofs.Writes.{length-written, then-written, written_none}
-use Rattle.store.specs.Numbers.{most_octets}
-use Rattle.pool.specs.Numbers.{block_count, block_octets, blocks_for, pool_octets}
+use Rattle.pool.specs.Numbers.{block_count, block_octets, pool_octets}
 use Rattle.pool.specs.Chains.{block, walk, gathered, Laid}
 
 -- a list that is cut past its first part

@@ -1,18 +1,18 @@
 -- Places and their chains, one place at a time.
-use Rattle.std.specs.Prelude.{◌≡◌, ℕ, zero, suc, ◌+◌, ◌-◌, ◌*◌, ◌<◌, ◌≤◌, Bool, true, false, cond, ◌&&◌, ltb, ◌≢◌, ◌⊎◌, List, [], length, replicate, is_some as option_is_some, Some, None, Option, nat_eq, nat_lt, slice_set, refl}
+use Rattle.std.specs.Prelude.{◌≡◌, ℕ, ◌-◌, ◌<◌, ◌≤◌, true, false, ◌&&◌, ltb, ◌≢◌, List, length, is_some as option_is_some, Some, None, Option, nat_eq, nat_lt, slice_set, refl}
 use Rattle.std.proofs.Common.{sym, ◌∙◌, ap, ⊎_elim, arith}
 use Rattle.std.proofs.Math.Path.{fun_ext}
-use Rattle.std.proofs.lemmas.List.{get_or-set_same, get_or-set_other, get_or-replicate, get_or_past, length-set, length-replicate}
+use Rattle.std.proofs.lemmas.List.{get_or-set_same, get_or-set_other}
 use Rattle.std.proofs.lemmas.Bool.{cases_eq, cases_lt, eq-eqb, ne_eqb, lt-ltb, le-ltb, and_right, and_left}
-use Rattle.store.specs.Meaning.{Segment, Held, Placed, Lawful, standing, count, count_of, lengths_of, nothing, replaced, paid, units}
+use Rattle.store.specs.Meaning.{Segment, Placed, Lawful, standing, count_of, lengths_of, replaced, paid}
 use Rattle.store.specs.Numbers.{number_count, most_octets}
 use Rattle.store.specs.Outcomes.{index}
 use Rattle.store.proofs.Places.{There}
 use Rattle.store.proofs.Standing.{lengths_standing}
 use Rattle.pool.specs.declared.Place.{Place}
 use Rattle.pool.specs.declared.Pool.{Pool}
-use Rattle.pool.specs.Numbers.{slot_count, place_count, block_count, block_octets, pool_octets, blocks_for, pool_shape}
-use Rattle.pool.specs.Chains.{walk, gathered, place, filled, first_of, blocks_of, laid_at, held_in, head, size, Inside, Apart, Fitting}
+use Rattle.pool.specs.Numbers.{slot_count, place_count, block_count, pool_octets, blocks_for, pool_shape}
+use Rattle.pool.specs.Chains.{walk, gathered, place, filled, first_of, blocks_of, laid_at, held_in, head, size, Inside, Fitting}
 use Rattle.pool.specs.Blocks.{length-gathered}
 use Rattle.pool.specs.Links.{Disjoint, disjoint}
 

@@ -1,10 +1,10 @@
 -- What a store holds after changes, one place after another.
-use Rattle.std.proofs.Common.{◌≡◌, ℕ, ◌+◌, ◌<◌, ◌≤◌, Bool, true, false, cond, ◌&&◌, eqb, ltb, leb, ◌⊎◌, is_some, is_ok, Some, None, Option, Result, sym, refl, ap, ◌∙◌, ⊎_elim, arith}
+use Rattle.std.proofs.Common.{◌≡◌, ℕ, ◌+◌, ◌<◌, ◌≤◌, Bool, true, false, cond, ◌&&◌, eqb, ltb, leb, is_some, is_ok, Some, None, Option, Result, sym, refl, ◌∙◌, ⊎_elim, arith}
 use mathlib.Core.Path.{fun_ext}
 use Rattle.std.proofs.lemmas.Bool.{cases_eq, cases_lt, eq-eqb, ne_eqb, lt-ltb, le-ltb, le-leb, lt-leb, true≢false, and_right}
 use Rattle.std.proofs.lemmas.Bool.Decides.{nat_tests}
 use Rattle.store.specs.declared.StoreFault.{StoreFault}
-use Rattle.store.specs.Meaning.{Segment, Held, Shape, Placed, replaced, without_slot, nothing, units}
+use Rattle.store.specs.Meaning.{Segment, Held, Shape, Placed, replaced, without_slot, nothing}
 use Rattle.store.specs.Outcomes.{drop_outcome}
 use Rattle.store.specs.Numbers.{number_count}
 use Rattle.store.specs.Trials.{Empty}

@@ -1,6 +1,6 @@
 -- Segments that stand in memory, the message first and then the area.
-use Rattle.std.proofs.Common.{◌≡◌, ℕ, ◌+◌, ◌-◌, ◌≤◌, Bool, true, false, ◌&&◌, List, [], ◌++◌, length, take, drop, Some, None, Option, sym, refl, ap, ◌∙◌, add-zero, zero-add, arith, take-add, Bor}
-use Rattle.std.proofs.lemmas.List.{take_at, drop_at, append_assoc, append-nil, length-append, length-take-le, length-drop, take-take, take-append-drop, drop-drop}
+use Rattle.std.proofs.Common.{◌≡◌, ℕ, ◌+◌, ◌-◌, ◌≤◌, Bool, true, false, ◌&&◌, List, [], ◌++◌, length, take, drop, Some, None, Option, sym, refl, ap, ◌∙◌, add-zero, arith, take-add, Bor}
+use Rattle.std.proofs.lemmas.List.{take_at, drop_at, append_assoc, append-nil, length-append, length-take-le, length-drop}
 use Rattle.octets.specs.Octets.{written}
 use Rattle.octets.proofs.Writes.{written-written}
 use Rattle.std.specs.Str.{bytes_eq}

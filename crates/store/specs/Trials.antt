@@ -1,5 +1,5 @@
 -- Two segments put one after the other, for a trial.
-use Rattle.std.specs.Prelude.{◌≡◌, ℕ, cond, ltb, is_ok, None, Result}
+use Rattle.std.specs.Prelude.{◌≡◌, ℕ, None, Result}
 use Rattle.std.specs.Result.{result_and}
 use Rattle.store.specs.declared.StoreFault.{StoreFault}
 use Rattle.store.specs.Meaning.{Segment, Held, Shape, with_segment}

@@ -1,5 +1,5 @@
 -- What a warning costs, and how long it is on tape.
-use Rattle.std.proofs.Common.{◌≡◌, ℕ, ◌+◌, ◌-◌, ◌<◌, ◌≤◌, Bool, true, false, cond, not, ◌&&◌, eqb, ltb, leb, List, [], ◌∷◌, ◌++◌, length, take, replicate, is_some, Some, None, Ok, Err, Option, Result, unwrap_or, sym, refl, ap, ◌∙◌, arith}
+use Rattle.std.proofs.Common.{◌≡◌, ℕ, ◌+◌, ◌-◌, ◌≤◌, Bool, true, false, cond, not, ◌&&◌, ltb, leb, List, length, take, replicate, is_some, Some, None, Ok, Err, Option, Result, unwrap_or, sym, refl, ap, ◌∙◌, arith}
 use Rattle.std.proofs.lemmas.List.{length-append, length-replicate, take_at}
 use Rattle.std.proofs.lemmas.Bool.{le-ltb, eqb-true, and_parts, leb-true, le-leb}
 use Rattle.std.specs.Option.{option_map}
@@ -12,7 +12,7 @@ use Rattle.tape.specs.declared.fault.WriteFault.{WriteFault}
 use Rattle.tape.specs.declared.fault.WriteFault.TheVariants.{Full}
 use Rattle.warning.specs.Notice.{Notice, primary, message, outline}
 use Rattle.warning.specs.Rules.{judged, is_warning, carries_message, without_area}
-use Rattle.tape.specs.Format.{encode, pieces, octets_of, cost, message_head, part_cost}
+use Rattle.tape.specs.Format.{encode, pieces, octets_of, cost, part_cost}
 use Rattle.tape.specs.Writing.{cost_by, costed, write_by, write_outcome}
 use Rattle.tape.proofs.Pieces.{length-pieces}
 

@@ -1,16 +1,14 @@
 -- How the reading of a whole tape ends.
-use Rattle.std.proofs.Common.{◌≡◌, ℕ, ◌+◌, ◌-◌, ◌<◌, ◌≤◌, true, false, List, [], ◌∷◌, ◌++◌, length, take, drop, is_some, Some, None, Ok, Err, Option, sym, refl, ap, ◌∙◌, arith}
-use Rattle.std.proofs.lemmas.List.{length-append, length-drop, length-take-le, take_all, take-append-drop}
+use Rattle.std.proofs.Common.{◌≡◌, ℕ, ◌+◌, ◌<◌, true, false, List, ◌++◌, length, take, drop, is_some, Some, None, Ok, Err, Option, sym, ap, ◌∙◌, arith}
+use Rattle.std.proofs.lemmas.List.{length-drop, length-take-le, take_all, take-append-drop}
 use Rattle.tape.specs.declared.fault.TapeFault.{TapeFault}
 use Rattle.tape.specs.declared.fault.ReadError.{ReadError}
 use Rattle.tape.specs.declared.fault.ReadError.TheVariants.{Fault, Memory}
 use Rattle.warning.specs.Notice.{Notice}
-use Rattle.tape.specs.Format.{encode, encode_all}
+use Rattle.tape.specs.Format.{encode_all}
 use Rattle.tape.specs.Reading.{Place, place, entry, followed, read_tape}
 use Rattle.tape.specs.declared.reader.TapeReader.{TapeReader}
 use Rattle.tape.specs.Readers.{whole_tape, read_so_far, Next, ReadAs}
-use Rattle.tape.proofs.Takes.{Took}
-use Rattle.tape.proofs.Entries.{entry_ok}
 use Rattle.tape.proofs.Steps.{Reached}
 use Rattle.tape.proofs.Whole.{all_read, all_read_step, all_read_at, prepended_all, prepended_err, reads_back}
 

@@ -1,7 +1,7 @@
 -- Reading one warning: what it took is its written form, and its written form is read back.
-use Rattle.std.proofs.Common.{◌≡◌, ℕ, zero, suc, ◌+◌, ◌-◌, ◌*◌, ◌/◌, ◌<◌, ◌≤◌, min, Bool, true, false, cond, not, ◌&&◌, ◌||◌, eqb, ltb, leb, ◌⊎◌, List, [], ◌∷◌, ◌++◌, length, get_or, take, drop, replicate, is_some, Some, None, Ok, Err, Option, unwrap_or, sym, refl, ap, ◌∙◌, inl, inr, ⊎_elim, arith}
+use Rattle.std.proofs.Common.{◌≡◌, ℕ, zero, suc, ◌+◌, ◌-◌, ◌*◌, ◌≤◌, min, Bool, true, false, cond, not, ◌&&◌, eqb, leb, ◌⊎◌, List, [], ◌∷◌, ◌++◌, length, take, drop, replicate, is_some, Some, None, Ok, Err, Option, unwrap_or, sym, refl, ap, ◌∙◌, inl, inr, ⊎_elim, arith}
 use Rattle.std.proofs.lemmas.List.{take_at, drop_at, append_assoc, append-nil, length-append, length-take, length-drop, take-append-drop, take_all, drop_all, nil_from_length}
-use Rattle.std.proofs.lemmas.Bool.{eq-eqb, ne_eqb, and_parts, eqb-true, eqb-false, leb-true, le-leb, cases_lt}
+use Rattle.std.proofs.lemmas.Bool.{eq-eqb, and_parts, eqb-true, leb-true, le-leb, cases_lt}
 use Rattle.std.specs.Option.{option_map}
 use Rattle.octets.specs.Octets.{two}
 use Rattle.warning.specs.declared.Pair.{Pair}
@@ -9,11 +9,11 @@ use Rattle.warning.specs.Notice.{Notice, primary, message, outline}
 use Rattle.warning.specs.Rules.{carries_message, without_area, limit, total, is_warning, right_security}
 use Rattle.tape.specs.declared.fault.TapeFault.{TapeFault}
 use Rattle.tape.specs.declared.fault.TapeFault.TheVariants.{Unknown}
-use Rattle.tape.specs.Format.{piece, pieces, pieces_by, commands_for, pair_octets, security_part, area_head, flag_of, octets_of, encode, cost}
-use Rattle.tape.specs.Reading.{Place, place, Read, then, operand, octet, number, number_to, pair_operands, all_zero, present, security_operand, primary_operands, data_operands, data_by, part, most_flag, most_area, message_operands, by_command, entry}
-use Rattle.tape.proofs.Pieces.{commands_more, length-piece, length-pieces}
+use Rattle.tape.specs.Format.{piece, pieces, pieces_by, commands_for, pair_octets, security_part, area_head, flag_of, octets_of, encode}
+use Rattle.tape.specs.Reading.{Place, place, Read, operand, octet, number, number_to, pair_operands, all_zero, present, security_operand, primary_operands, data_operands, data_by, part, most_flag, most_area, message_operands, by_command, entry}
+use Rattle.tape.proofs.Pieces.{length-pieces}
 use Rattle.tape.proofs.Costs.{length-encode}
-use Rattle.tape.proofs.Takes.{Took, then_ok, then_elim, then_is, ok_parts, took_both, took_same, operand_ok, operand_at, octet_ok, octet_at, number_ok, number_at, number_to_ok, number_to_at, pair_ok, pair_at, zeros, zeros_pass, data_ok, data_at}
+use Rattle.tape.proofs.Takes.{Took, then_ok, then_elim, then_is, ok_parts, took_both, took_same, operand_ok, operand_at, octet_ok, octet_at, number_ok, number_at, number_to_ok, number_to_at, pair_ok, pair_at, zeros, data_ok, data_at}
 
 -- a part of a list that is cut into its first octets and the others
 cut_front : (xs ys : List ℕ) → (length xs ≡ 32) ⊎ (length xs ≤ 32) × (ys ≡ []) → (take 32 (xs ++ ys) ≡ xs) × (drop 32 (xs ++ ys) ≡ ys)

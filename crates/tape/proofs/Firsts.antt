@@ -14,8 +14,8 @@ use Rattle.warning.specs.Rules.{carries_message, without_area, limit, total, is_
 use Rattle.tape.specs.declared.fault.TapeFault.{TapeFault}
 use Rattle.tape.specs.declared.fault.TapeFault.TheVariants.{Unknown}
 use Rattle.tape.specs.Format.{encode, pieces, pair_octets, flag_of, octets_of, security_part, area_head}
-use Rattle.tape.specs.Heads.{primary_outline, lengths_outline, message_outline, entry_outline, security_list, data_of}
-use Rattle.tape.specs.Reading.{Place, place, Read, operand, octet, number, number_to, pair_operands, all_zero, present, part, most_flag, most_area}
+use Rattle.tape.specs.Heads.{primary_outline, message_outline, entry_outline, security_list, data_of}
+use Rattle.tape.specs.Reading.{Place, place, operand, octet, number, number_to, pair_operands, all_zero, present, part, most_flag, most_area}
 use Rattle.tape.proofs.Costs.{length-octets_of}
 use Rattle.tape.proofs.Takes.{then_is, then_elim, ok_parts, operand_at, octet_at, octet_ok, number_at, number_to_at, number_to_ok, pair_at}
 use Rattle.tape.proofs.Entries.{right_flag, area_fits, area_read, part_at, one_of_two}

@@ -1,22 +1,14 @@
 -- The first warning of a tape: its outline, and its octets copied to memory.
-use Rattle.std.proofs.Common.{◌≡◌, ℕ, zero, suc, ◌+◌, ◌-◌, ◌<◌, ◌≤◌, min, Bool, true, false, cond, not, ◌&&◌, eqb, leb, List, [], ◌∷◌, ◌++◌, length, take, drop, replicate, is_some, Some, None, Ok, Err, Option, Result, unwrap_or, sym, refl, ap, ◌∙◌, add-zero, arith}
-use Rattle.std.proofs.lemmas.List.{append_assoc, append-nil, length-append}
-use Rattle.std.proofs.lemmas.Bool.{eq-eqb, ne_eqb, eqb-true, leb-true, and_parts, cond-true, cond-false}
-use Rattle.std.specs.Option.{option_map}
-use Rattle.octets.specs.Octets.{two, written}
+use Rattle.std.proofs.Common.{◌≡◌, ℕ, ◌+◌, ◌-◌, ◌<◌, ◌≤◌, min, eqb, List, [], ◌++◌, length, Ok, Err, sym, refl, ap, ◌∙◌, arith}
+use Rattle.std.proofs.lemmas.List.{length-append}
+use Rattle.std.proofs.lemmas.Bool.{eq-eqb, ne_eqb, cond-true, cond-false}
+use Rattle.octets.specs.Octets.{written}
 use Rattle.octets.proofs.Writes.{written_none, written-written, length-written}
-use Rattle.warning.specs.declared.Pair.{Pair}
-use Rattle.warning.specs.declared.Outline.{Outline}
-use Rattle.warning.specs.declared.Outline.TheVariants.{Primary, Message}
-use Rattle.warning.specs.Notice.{Notice, primary, message, outline}
-use Rattle.warning.specs.Rules.{carries_message, without_area, limit, is_warning, right_security}
 use Rattle.tape.specs.declared.fault.TapeFault.{TapeFault}
 use Rattle.tape.specs.declared.fault.TapeFault.TheVariants.{Unknown}
-use Rattle.tape.specs.Format.{encode, pieces, pair_octets, flag_of, octets_of, security_part, area_head}
-use Rattle.tape.specs.Heads.{primary_outline, lengths_outline, message_outline, outline_by, entry_outline}
-use Rattle.tape.specs.Reading.{Place, place, Read, then, octet, number, number_to, pair_operands, present, part, data_operands, most_flag, most_area}
-use Rattle.tape.proofs.Takes.{then_is, octet_at, number_at, number_to_at, pair_at, data_ok}
-use Rattle.tape.proofs.Entries.{right_flag, area_fits, part_ok}
+use Rattle.tape.specs.Heads.{primary_outline, message_outline, outline_by}
+use Rattle.tape.specs.Reading.{Place, part, data_operands}
+use Rattle.tape.proofs.Takes.{data_ok}
 use Rattle.tape.proofs.Gathers.{prefixed, gather_start, gather_more, gather_err, gather_end}
 
 -- what a command octet tells

@@ -1,12 +1,8 @@
 -- Gathering the octets of a part from its data commands, one at a time.
-use Rattle.std.proofs.Common.{◌≡◌, ℕ, zero, suc, ◌+◌, ◌-◌, ◌<◌, ◌≤◌, min, List, [], ◌∷◌, ◌++◌, Ok, Err, Result, sym, refl, ap, ◌∙◌, arith}
+use Rattle.std.proofs.Common.{◌≡◌, ℕ, ◌-◌, ◌<◌, min, List, [], ◌++◌, Ok, Err, sym, refl, ap, ◌∙◌, arith}
 use Rattle.std.proofs.lemmas.List.{append_assoc, append-nil}
 use Rattle.tape.specs.declared.fault.TapeFault.{TapeFault}
-use Rattle.tape.specs.declared.fault.ReadError.{ReadError}
-use Rattle.tape.specs.declared.cursor.Cursor.{Cursor}
-use Rattle.tape.specs.Cursors.{Agrees}
-use Rattle.tape.specs.Format.{commands_for}
-use Rattle.tape.specs.Reading.{Place, place, Read, then, data_operands, data_by, part}
+use Rattle.tape.specs.Reading.{Place, Read, then, data_operands, data_by, part}
 use Rattle.tape.proofs.Pieces.{commands_more}
 use Rattle.tape.proofs.Takes.{then_is}
 use Rattle.tape.proofs.Splits.{then_err}

@@ -1,5 +1,5 @@
 -- The data commands of a part, one at a time.
-use Rattle.std.proofs.Common.{◌≡◌, ℕ, zero, suc, ◌+◌, ◌-◌, ◌*◌, ◌/◌, ◌<◌, ◌≤◌, List, [], ◌∷◌, ◌++◌, length, take, drop, replicate, sym, refl, ap, ◌∙◌, arith}
+use Rattle.std.proofs.Common.{◌≡◌, ℕ, zero, suc, ◌+◌, ◌-◌, ◌*◌, ◌<◌, ◌≤◌, List, [], ◌++◌, length, take, drop, replicate, refl, ◌∙◌, arith}
 use Rattle.std.proofs.lemmas.List.{length-drop, length-append, length-replicate, length-take, length-take-le, take_all, drop_all, append-nil, drop-replicate, take-replicate, take_rest}
 use Rattle.octets.specs.Octets.{written}
 use Rattle.octets.proofs.Writes.{written-written}

@@ -1,11 +1,10 @@
 -- What each operand takes from a tape, and that it is read back.
-use Rattle.std.proofs.Common.{◌≡◌, ℕ, zero, suc, ◌+◌, ◌-◌, ◌*◌, ◌/◌, ◌%◌, ◌<◌, ◌≤◌, min, Bool, true, false, cond, ◌&&◌, eqb, ltb, leb, List, [], ◌∷◌, ◌++◌, length, get_or, take, drop, replicate, Ok, Err, Result, sym, refl, ap, ◌∙◌, arith}
+use Rattle.std.proofs.Common.{◌≡◌, ℕ, zero, suc, ◌+◌, ◌-◌, ◌*◌, ◌/◌, ◌%◌, ◌<◌, ◌≤◌, Bool, true, false, cond, ◌&&◌, eqb, ltb, leb, List, [], ◌∷◌, ◌++◌, length, get_or, take, drop, replicate, Ok, Err, sym, refl, ap, ◌∙◌, arith}
 use Rattle.std.proofs.lemmas.List.{take_at, drop_at, append_assoc, length-append, length-take-le, take-append-drop, length-drop, length-replicate}
 use Rattle.std.proofs.lemmas.Bool.{eq-eqb, le-ltb, ltb-false, and_parts, eqb-true, leb-true, ltb-true, lt-ltb, le-leb}
 use Rattle.octets.specs.Octets.{two, two_at}
 use Rattle.warning.specs.declared.Pair.{Pair}
 use Rattle.tape.specs.declared.fault.TapeFault.{TapeFault}
-use Rattle.tape.specs.declared.fault.TapeFault.TheVariants.{Unknown, Ended}
 use Rattle.tape.specs.Format.{pair_octets, piece}
 use Rattle.tape.specs.Reading.{Place, place, Read, then, operand, first_is, octet, of_number, number, number_to, pair_operands, all_zero, data_operands}
 

@@ -1,5 +1,5 @@
 -- What writing one warning answers.
-use Rattle.std.specs.Prelude.{ℕ, ◌+◌, ◌-◌, cond, Ok, Err, Result, nat_lt}
+use Rattle.std.specs.Prelude.{ℕ, ◌+◌, cond, Ok, Err, Result, nat_lt}
 use Rattle.warning.specs.declared.Outline.{Outline}
 use Rattle.warning.specs.declared.WarningFault.{WarningFault}
 use Rattle.warning.specs.Rules.{judged}

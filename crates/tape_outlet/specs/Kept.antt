@@ -1,8 +1,8 @@
 -- The octets that a tape outlet has in use, and the warnings that they are the written form of.
-use Rattle.std.specs.Prelude.{◌≡◌, ℕ, ◌+◌, ◌-◌, ◌<◌, ◌≤◌, Bool, true, false, cond, not, ◌&&◌, List, [], ◌∷◌, ◌++◌, length, take, drop, is_some, Some, None, Ok, Err, Option, Result, nat_lt, refl}
+use Rattle.std.specs.Prelude.{◌≡◌, ℕ, ◌+◌, ◌-◌, ◌<◌, ◌≤◌, Bool, true, false, cond, not, ◌&&◌, List, [], ◌∷◌, ◌++◌, length, take, drop, is_some, Some, Ok, Err, Result, nat_lt, refl}
 use Rattle.std.proofs.Common.{sym, ◌∙◌, ap, arith}
 use Rattle.std.proofs.Math.Seq.{paste}
-use Rattle.std.proofs.lemmas.List.{append_assoc, append-nil, length-append, length-take-le, length-drop, take_at, drop_at, drop-take, flat_map_more, nil_from_length}
+use Rattle.std.proofs.lemmas.List.{append_assoc, length-append, length-take-le, length-drop, take_at, drop_at, drop-take, flat_map_more}
 use Rattle.std.proofs.lemmas.List.Sums.{sum_by-cons}
 use Rattle.std.proofs.lemmas.Bool.{and_parts, and_from, leb-true, ltb-false}
 use Rattle.std.specs.Option.{unwrap_or}
@@ -13,7 +13,6 @@ use Rattle.warning.specs.declared.WarningFault.{WarningFault}
 use Rattle.warning.specs.Contents.{octets}
 use Rattle.warning.specs.Notice.{Notice, outline}
 use Rattle.warning.specs.Rules.{is_warning, judged, carries_message, without_area}
-use Rattle.warning.proofs.Judging.{judged_right, right_judged}
 use Rattle.tape.specs.declared.fault.TapeFault.{TapeFault}
 use Rattle.tape.specs.declared.fault.WriteFault.{WriteFault}
 use Rattle.tape.specs.declared.fault.WriteFault.TheVariants.{NoWarning as NotWritten, Full as NoRoom}
@@ -22,7 +21,7 @@ use Rattle.tape.specs.Promises.{all_warnings}
 use Rattle.tape.specs.Reading.{read_tape}
 use Rattle.tape.specs.Writing.{cost_by as cost-on-tape, write_by, write_outcome, costed}
 use Rattle.tape.proofs.Costs.{length-encode}
-use Rattle.tape.proofs.Whole.{reads_back, some_octets}
+use Rattle.tape.proofs.Whole.{reads_back}
 use Rattle.outlet.specs.declared.OutletFault.{OutletFault}
 use Rattle.outlet.specs.declared.OutletFault.TheVariants.{Full}
 use Rattle.outlet.specs.Meaning.{Lawful, Warnings, costs, units_free}

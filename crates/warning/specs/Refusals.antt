@@ -2,7 +2,7 @@
 use Rattle.std.specs.Prelude.{ℕ}
 use Rattle.warning.specs.declared.Refusal.{Refusal}
 use Rattle.warning.specs.declared.Values.{Values}
-use Rattle.warning.specs.declared.Values.TheVariants.{Nothing, One, Two}
+use Rattle.warning.specs.declared.Values.TheVariants.{Nothing, One}
 use Rattle.warning.specs.declared.WarningFault.{WarningFault}
 use Rattle.warning.specs.declared.WarningFault.TheVariants.{Block, Area, TooLong, Security}
 

@@ -1,4 +1,4 @@
-use Rattle.std.proofs.Common.{◌≡◌, ℕ, replicate, None, refl}
+use Rattle.std.proofs.Common.{replicate, None, refl}
 use Rattle.berths.specs.declared.Berth.{Berth}
 use Rattle.berths.specs.Numbers.{berth_count, berth_octets}
 use Rattle.berths.specs.Laying.{held_none, new_long, new_fitting, new_counted}

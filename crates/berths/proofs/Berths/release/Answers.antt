@@ -1,5 +1,4 @@
-use Rattle.std.proofs.Common.{◌≡◌, ◌+◌, ◌-◌, ◌*◌, ◌<◌, ◌≤◌, true, false, length, get_or, is_some as option_is_some, None, sym, refl, ap, ◌∙◌, arith, length-set}
-use Rattle.store.specs.Meaning.{paid}
+use Rattle.std.proofs.Common.{◌+◌, ◌-◌, ◌*◌, ◌<◌, ◌≤◌, length, get_or, is_some as option_is_some, None, sym, refl, ap, ◌∙◌, arith, length-set}
 use Rattle.store.proofs.Changes.{none_if, replaced-same}
 use Rattle.store.proofs.Places.{There}
 use Rattle.store.proofs.Sums.{counted_replaced, counted_held, paid_below}

@@ -1,5 +1,4 @@
-use Rattle.std.proofs.Common.{◌≡◌, [], ◌∷◌, sym, refl, ap, ◌∙◌}
-use Rattle.keys.specs.Lists.{recalled}
+use Rattle.std.proofs.Common.{[], ◌∷◌, refl, ap, ◌∙◌}
 use Rattle.instances.specs.Primaries.{answers, primary_of}
 use Rattle.instances.proofs.Five.{answers_step, five}
 use Rattle.instances.proofs.primaries.five_primaries.Goals as goal

@@ -1,4 +1,4 @@
-use Rattle.std.proofs.Common.{◌≡◌, sym, refl, ap, ◌∙◌, arith}
+use Rattle.std.proofs.Common.{ap, ◌∙◌, arith}
 use Rattle.octets.specs.Octets.{written}
 use Rattle.octets.proofs.Writes.{then-written}
 use Rattle.outlet.proofs.standing.lay.Goals as goal

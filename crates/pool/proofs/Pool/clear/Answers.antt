@@ -1,4 +1,4 @@
-use Rattle.std.proofs.Common.{◌≡◌, None, sym, refl, ap, ◌∙◌, arith}
+use Rattle.std.proofs.Common.{◌≡◌, None, ap, ◌∙◌, arith}
 use Rattle.store.specs.Meaning.{replaced}
 use Rattle.store.specs.Numbers.{number_count}
 use Rattle.store.proofs.Changes.{without_below, below_none, below_more, below_all}

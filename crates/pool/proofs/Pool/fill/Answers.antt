@@ -1,8 +1,8 @@
-use Rattle.std.proofs.Common.{◌≡◌, ◌+◌, ◌-◌, ◌*◌, ◌≤◌, length, take, sym, refl, ap, ◌∙◌, arith}
-use Rattle.store.specs.Meaning.{segment, count, octets}
+use Rattle.std.proofs.Common.{◌≡◌, ◌+◌, ◌-◌, ◌*◌, length, take, sym, refl, ap, ◌∙◌, arith}
+use Rattle.store.specs.Meaning.{segment, count}
 use Rattle.store.proofs.Places.{There}
 use Rattle.store.proofs.Standing.{length-octets}
-use Rattle.pool.specs.Numbers.{slot_count, place_count, block_count, blocks_for}
+use Rattle.pool.specs.Numbers.{slot_count, place_count, blocks_for}
 use Rattle.pool.specs.Chains.{walk}
 use Rattle.pool.specs.Tables.{sound}
 use Rattle.pool.proofs.Keeping.{joined, slot_used, filled-kept, filled-holding}

@@ -1,4 +1,4 @@
-use Rattle.std.proofs.Common.{◌≡◌, refl, arith}
+use Rattle.std.proofs.Common.{refl, arith}
 use Rattle.pool.specs.Numbers.{place_count}
 use Rattle.pool.proofs.Fresh.{new_inside, new_apart, new_fitting, new_held, new_units, new_counted}
 use Rattle.pool.proofs.Pool.new.Goals as goal

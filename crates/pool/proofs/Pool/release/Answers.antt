@@ -1,8 +1,8 @@
-use Rattle.std.proofs.Common.{◌≡◌, ◌+◌, ◌-◌, ◌*◌, ◌<◌, ◌≤◌, Some, None, sym, refl, ap, ◌∙◌, arith}
+use Rattle.std.proofs.Common.{◌+◌, ◌*◌, ◌<◌, None, sym, refl, ap, ◌∙◌, arith}
 use Rattle.store.proofs.Changes.{replaced-same}
 use Rattle.store.proofs.Places.{There}
 use Rattle.pool.specs.Numbers.{slot_count, place_count, blocks_for}
-use Rattle.pool.specs.Chains.{laid_at, walk}
+use Rattle.pool.specs.Chains.{laid_at}
 use Rattle.pool.specs.Holding.{holding}
 use Rattle.pool.specs.Tables.{sound, held_at, fits_at, inside_at}
 use Rattle.pool.proofs.Keeping.{enough, enough_in, released_holding, released_kept}

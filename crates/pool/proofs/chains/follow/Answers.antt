@@ -1,4 +1,4 @@
-use Rattle.std.proofs.Common.{◌≡◌, get_or, sym, refl, ap, ◌∙◌, arith}
+use Rattle.std.proofs.Common.{get_or, sym, ap, ◌∙◌, arith}
 use Rattle.pool.specs.Chains.{walk}
 use Rattle.pool.specs.Blocks.{walk_none, walk_more}
 use Rattle.pool.proofs.chains.follow.Goals as goal

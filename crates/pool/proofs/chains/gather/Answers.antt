@@ -1,4 +1,4 @@
-use Rattle.std.proofs.Common.{◌≡◌, ◌+◌, ◌-◌, ◌*◌, ◌≤◌, min, length, get_or, take, drop, sym, refl, ap, ◌∙◌, arith}
+use Rattle.std.proofs.Common.{◌≡◌, ◌+◌, ◌-◌, ◌*◌, ◌≤◌, min, get_or, take, drop, sym, ap, ◌∙◌, arith}
 use Rattle.octets.specs.Octets.{written}
 use Rattle.pool.specs.Numbers.{blocks_for}
 use Rattle.pool.specs.Chains.{walk, gathered}

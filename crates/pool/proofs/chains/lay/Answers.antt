@@ -1,4 +1,4 @@
-use Rattle.std.proofs.Common.{◌≡◌, ℕ, ◌+◌, ◌-◌, ◌*◌, ◌≤◌, length, get_or, take, drop, sym, refl, ap, ◌∙◌, subst, arith}
+use Rattle.std.proofs.Common.{◌≡◌, ℕ, ◌-◌, ◌*◌, ◌≤◌, length, get_or, take, drop, sym, ap, ◌∙◌, subst, arith}
 use Rattle.octets.specs.Octets.{written}
 use Rattle.pool.specs.Numbers.{blocks_for}
 use Rattle.pool.specs.Chains.{walk, Laid}

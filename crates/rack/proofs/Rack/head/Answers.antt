@@ -1,4 +1,4 @@
-use Rattle.std.proofs.Common.{◌≡◌, arith}
+use Rattle.std.proofs.Common.{arith}
 use Rattle.rack.specs.Ring.{first_held}
 use Rattle.rack.proofs.Rack.head.Goals as goal
 

@@ -1,5 +1,5 @@
-use Rattle.std.proofs.Common.{◌≡◌, cond, is_ok, sym, refl, ap, ◌∙◌}
-use Rattle.store.specs.Meaning.{Held, Shape, units, without_slot}
+use Rattle.std.proofs.Common.{◌≡◌, ap, ◌∙◌}
+use Rattle.store.specs.Meaning.{units}
 use Rattle.store.specs.Trials.{Empty}
 use Rattle.store.proofs.Changes.{back}
 use Rattle.store.proofs.trial.try_two.Goals as goal

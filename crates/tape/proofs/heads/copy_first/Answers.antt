@@ -1,7 +1,6 @@
-use Rattle.std.proofs.Common.{Ok, sym, refl, ap, ◌∙◌, arith}
+use Rattle.std.proofs.Common.{Ok, sym, ap, arith}
 use Rattle.warning.proofs.Standing.{few_octets}
 use Rattle.tape.specs.Reading.{place}
-use Rattle.tape.specs.Cursors.{stands}
 use Rattle.tape.proofs.Firsts.{clash, outline_not_refused, outline_found, outline_right}
 use Rattle.tape.proofs.heads.copy_first.Goals as goal
 

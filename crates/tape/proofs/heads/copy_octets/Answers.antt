@@ -1,4 +1,4 @@
-use Rattle.std.proofs.Common.{sym, refl, ap, ◌∙◌, arith}
+use Rattle.std.proofs.Common.{refl, ◌∙◌, arith}
 use Rattle.tape.specs.Cursors.{stands}
 use Rattle.tape.proofs.Firsts.{message_not_refused, area_not_refused, both_copied}
 use Rattle.tape.proofs.heads.copy_octets.Goals as goal

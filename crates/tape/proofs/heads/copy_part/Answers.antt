@@ -1,4 +1,4 @@
-use Rattle.std.proofs.Common.{length, refl, arith}
+use Rattle.std.proofs.Common.{refl, arith}
 use Rattle.std.proofs.lemmas.Result.{err_from_is_err_and}
 use Rattle.tape.specs.Cursors.{stands}
 use Rattle.tape.proofs.Fronts.{copying_start, copying_more, copying_err, copying_end, copying_long, piece_long}

@@ -1,5 +1,4 @@
-use Rattle.std.proofs.Common.{Ok, sym, refl, ap, ◌∙◌}
-use Rattle.tape.specs.Cursors.{stands}
+use Rattle.std.proofs.Common.{Ok, ap}
 use Rattle.tape.proofs.Firsts.{outline_not_refused, outline_found}
 use Rattle.tape.proofs.heads.first_outline.Goals as goal
 

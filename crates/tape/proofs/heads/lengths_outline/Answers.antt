@@ -1,4 +1,4 @@
-use Rattle.std.proofs.Common.{leb, Ok, sym, refl, ap, ◌∙◌}
+use Rattle.std.proofs.Common.{leb, Ok, ap}
 use Rattle.std.proofs.lemmas.Result.{err_from_is_err_and}
 use Rattle.warning.specs.declared.Outline.TheVariants.{Message}
 use Rattle.warning.specs.Rules.{limit}

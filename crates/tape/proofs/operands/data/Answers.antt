@@ -1,4 +1,4 @@
-use Rattle.std.proofs.Common.{◌≡◌, eqb, take, drop, Ok, refl, ap, arith, rules}
+use Rattle.std.proofs.Common.{eqb, take, drop, Ok, ap, rules}
 use Rattle.std.proofs.lemmas.Result.{err_from_is_err_and}
 use Rattle.tape.specs.Cursors.{stands}
 use Rattle.tape.specs.Reading.{octet, operand, all_zero, data_operands}

@@ -1,4 +1,4 @@
-use Rattle.std.proofs.Common.{sym, ap, ◌∙◌, arith}
+use Rattle.std.proofs.Common.{sym, ◌∙◌, arith}
 use Rattle.std.proofs.lemmas.Bool.{ltb-false, ltb-true}
 use Rattle.tape.proofs.Splits.{number_to_over, number_to-first, within_rest}
 use Rattle.tape.proofs.operands.number_to.Goals as goal

@@ -1,4 +1,4 @@
-use Rattle.std.proofs.Common.{◌≡◌, ◌+◌, take, Ok, Err, sym, ap, ◌∙◌, arith}
+use Rattle.std.proofs.Common.{◌+◌, take, Ok, Err, sym, ap, ◌∙◌, arith}
 use Rattle.tape.specs.Reading.{place}
 use Rattle.tape.proofs.Splits.{padded_wrong, padded_short, padded_long}
 use Rattle.tape.proofs.operands.padded.Goals as goal

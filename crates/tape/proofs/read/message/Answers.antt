@@ -1,4 +1,4 @@
-use Rattle.std.proofs.Common.{true, sym, refl, ap, ◌∙◌}
+use Rattle.std.proofs.Common.{true, sym, refl}
 use Rattle.std.proofs.lemmas.Result.{err_from_is_err_and}
 use Rattle.warning.specs.Owned.{owned}
 use Rattle.warning.specs.Rules.{carries_message}

@@ -1,9 +1,9 @@
-use Rattle.std.proofs.Common.{leb, sym, refl, ap, ◌∙◌}
+use Rattle.std.proofs.Common.{leb, sym, refl}
 use Rattle.std.proofs.lemmas.Result.{err_from_is_err_and}
 use Rattle.warning.specs.Owned.{owned}
 use Rattle.warning.specs.Rules.{limit}
 use Rattle.tape.specs.Cursors.{stands}
-use Rattle.tape.specs.Reading.{number_to, octet, most_flag, most_area, message_data}
+use Rattle.tape.specs.Reading.{number_to, octet, most_flag, most_area}
 use Rattle.tape.proofs.Splits.{from_err, from_ok, agrees_same}
 use Rattle.tape.proofs.read.message_lengths.Goals as goal
 

@@ -1,4 +1,4 @@
-use Rattle.std.proofs.Common.{leb, sym, refl, ap, ◌∙◌}
+use Rattle.std.proofs.Common.{leb, sym, refl}
 use Rattle.std.proofs.lemmas.Result.{err_from_is_err_and}
 use Rattle.warning.specs.Owned.{kept, owned}
 use Rattle.tape.specs.Cursors.{stands}

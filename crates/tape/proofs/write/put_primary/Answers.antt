@@ -1,4 +1,4 @@
-use Rattle.std.proofs.Common.{◌≡◌, [], ◌∷◌, ◌++◌, length, replicate, sym, refl, ap, ◌∙◌, arith}
+use Rattle.std.proofs.Common.{[], ◌∷◌, ◌++◌, replicate, arith}
 use Rattle.tape.specs.Format.{primary_head}
 use Rattle.octets.proofs.Writes.{then-written}
 use Rattle.tape.proofs.write.put_primary.Goals as goal

@@ -1,7 +1,7 @@
-use Rattle.std.proofs.Common.{◌≡◌, ◌+◌, length, sym, ap, ◌∙◌, arith}
+use Rattle.std.proofs.Common.{length, ap, arith}
 use Rattle.warning.specs.Meaning.{said, lent}
 use Rattle.warning.specs.Notice.{outline}
-use Rattle.tape.specs.Format.{cost, part_cost}
+use Rattle.tape.specs.Format.{part_cost}
 use Rattle.tape.proofs.Costs.{costed-cost, write_fits, length-octets_of}
 use Rattle.tape.proofs.write.write.Goals as goal
 

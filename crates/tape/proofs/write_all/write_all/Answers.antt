@@ -1,4 +1,4 @@
-use Rattle.std.proofs.Common.{◌+◌, map, take, drop, Ok, vec_items, sym, refl, ap, ◌∙◌, arith}
+use Rattle.std.proofs.Common.{◌+◌, map, take, drop, Ok, vec_items, sym, ap, ◌∙◌}
 use Rattle.std.proofs.lemmas.List.{take_all}
 use Rattle.std.proofs.lemmas.Result.{err_from_is_err_and}
 use Rattle.warning.specs.Meaning.{said}

@@ -1,4 +1,4 @@
-use Rattle.std.proofs.Common.{◌≡◌, ◌≤◌, [], refl, arith}
+use Rattle.std.proofs.Common.{[], refl, arith}
 use Rattle.tape_outlet.specs.Kept.{kept_none, kept_held, kept_right, kept-written}
 use Rattle.tape_outlet.proofs.TapeOutlet.new.Goals as goal
 

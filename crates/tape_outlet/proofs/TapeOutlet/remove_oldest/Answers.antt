@@ -1,6 +1,6 @@
-use Rattle.std.proofs.Common.{◌≡◌, ◌-◌, ◌≤◌, length, take, drop, sym, refl, ap, ◌∙◌, arith}
+use Rattle.std.proofs.Common.{take, drop, sym, ap, ◌∙◌, arith}
 use Rattle.std.proofs.lemmas.List.{length-take-le}
-use Rattle.tape.specs.Format.{cost, encode_all}
+use Rattle.tape.specs.Format.{encode_all}
 use Rattle.tape.specs.Promises.{all_warnings}
 use Rattle.tape.proofs.Costs.{costed-cost}
 use Rattle.tape_outlet.specs.Written.{read_as}

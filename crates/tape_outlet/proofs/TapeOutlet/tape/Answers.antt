@@ -1,4 +1,4 @@
-use Rattle.std.proofs.Common.{◌≡◌, ◌-◌, take, sym, refl, ap, ◌∙◌, arith}
+use Rattle.std.proofs.Common.{◌≡◌, ◌-◌, take, sym, ap, ◌∙◌, arith}
 use Rattle.tape.specs.Reading.{read_tape}
 use Rattle.tape_outlet.specs.Kept.{kept, kept_reads}
 use Rattle.tape_outlet.proofs.TapeOutlet.tape.Goals as goal

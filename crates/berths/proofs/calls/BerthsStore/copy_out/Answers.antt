@@ -1,4 +1,4 @@
-use Rattle.std.proofs.Common.{◌≡◌, ◌-◌, ◌≤◌, length, sym, refl, ap, ◌∙◌, arith}
+use Rattle.std.proofs.Common.{◌-◌, ◌≤◌, length, sym, refl, ap, ◌∙◌, arith}
 use Rattle.store.specs.Meaning.{count_of, standing}
 use Rattle.store.proofs.Places.{there, not_held, copy_short, copy_done}
 use Rattle.store.proofs.Standing.{lengths_standing, copied-standing}

@@ -1,4 +1,4 @@
-use Rattle.std.proofs.Common.{◌≡◌, Ok, sym, refl, ap, ◌∙◌, arith}
+use Rattle.std.proofs.Common.{Ok, sym, ap, ◌∙◌, arith}
 use Rattle.store.specs.Meaning.{same, segment, standing}
 use Rattle.store.proofs.Places.{there, not_held, of_held}
 use Rattle.berths.specs.Numbers.{slot_count, berths_shape}

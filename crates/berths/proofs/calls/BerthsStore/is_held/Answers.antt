@@ -1,4 +1,4 @@
-use Rattle.std.proofs.Common.{◌≡◌, is_some as option_is_some, sym, refl, ap, ◌∙◌}
+use Rattle.std.proofs.Common.{is_some as option_is_some, sym, ap, ◌∙◌}
 use Rattle.store.proofs.Places.{there, held_told}
 use Rattle.berths.specs.Numbers.{slot_count, berths_shape}
 use Rattle.berths.specs.Berthed.{berth}

@@ -1,10 +1,10 @@
-use Rattle.std.proofs.Common.{◌≡◌, ◌+◌, ◌<◌, ◌≤◌, true, false, length, get_or, set, is_some as option_is_some, Some, None, Err, sym, refl, ap, ◌∙◌, arith, length-set}
+use Rattle.std.proofs.Common.{◌≡◌, ◌+◌, ◌<◌, ◌≤◌, length, get_or, set, is_some as option_is_some, Some, Err, sym, refl, ap, ◌∙◌, arith, length-set}
 use Rattle.std.proofs.lemmas.Result.{err_from_is_err_and}
 use Rattle.store.specs.declared.StoreFault.TheVariants.{Occupied}
-use Rattle.store.specs.Meaning.{count, segment, paid, replaced, with_segment}
+use Rattle.store.specs.Meaning.{count, segment, paid, replaced}
 use Rattle.store.specs.Numbers.{most_octets}
 use Rattle.store.proofs.Changes.{none_if}
-use Rattle.store.proofs.Places.{There, there, put_occupied, put_done, refused_if, passed_if, unchanged}
+use Rattle.store.proofs.Places.{there, put_occupied, put_done, refused_if, passed_if, unchanged}
 use Rattle.store.proofs.Sums.{counted_replaced, counted_held}
 use Rattle.berths.specs.Numbers.{slot_count, one, berths_shape}
 use Rattle.berths.specs.Berthed.{berth, held_in, filled, laid, lies}

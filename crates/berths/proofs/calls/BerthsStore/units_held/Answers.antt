@@ -1,4 +1,4 @@
-use Rattle.std.proofs.Common.{◌≡◌, sym, refl, ap, ◌∙◌, arith}
+use Rattle.std.proofs.Common.{arith}
 use Rattle.berths.specs.Holding.{holding}
 use Rattle.berths.specs.Laying.{units_three, slot_most}
 use Rattle.berths.proofs.calls.BerthsStore.units_held.Goals as goal

@@ -1,4 +1,4 @@
-use Rattle.std.proofs.Common.{◌≡◌, ◌-◌, ◌++◌, length, take, drop, arith}
+use Rattle.std.proofs.Common.{take, arith}
 use native.Mathlib.Nat.{sub-zero}
 use Rattle.keys.specs.Kinds.{same_pair}
 use Rattle.keys.proofs.Counts.{at_most_is, at_most_kept}

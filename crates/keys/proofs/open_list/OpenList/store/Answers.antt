@@ -1,4 +1,4 @@
-use Rattle.std.proofs.Common.{◌≡◌, take, sym, ◌∙◌, arith}
+use Rattle.std.proofs.Common.{take, sym, ◌∙◌, arith}
 use Rattle.keys.specs.Kinds.{same_pair}
 use Rattle.keys.specs.Agree.{decides_pair}
 use Rattle.keys.proofs.Counts.{at_most_is, apart_stored}

@@ -1,4 +1,4 @@
-use Rattle.std.proofs.Common.{◌≡◌, ◌-◌, ◌++◌, length, take, drop, arith}
+use Rattle.std.proofs.Common.{take, arith}
 use native.Mathlib.Nat.{sub-zero}
 use Rattle.keys.specs.Kinds.{same_network_pair, of_one_network}
 use Rattle.keys.specs.Numbers.{most_of_network}

@@ -1,6 +1,6 @@
-use Rattle.std.proofs.Common.{◌≡◌, ◌<◌, ◌≤◌, length, take, sym, refl, ap, ◌∙◌, arith}
+use Rattle.std.proofs.Common.{◌<◌, take, sym, refl, ap, ◌∙◌, arith}
 use Rattle.octets.specs.Octets.{written}
-use Rattle.store.specs.Meaning.{count_of, standing}
+use Rattle.store.specs.Meaning.{count_of}
 use Rattle.store.proofs.Places.{there, not_held, copy_short, copy_done}
 use Rattle.store.proofs.Standing.{copied-standing}
 use Rattle.pool.specs.Numbers.{slot_count, place_count, blocks_for, pool_shape}

@@ -1,4 +1,4 @@
-use Rattle.std.proofs.Common.{◌≡◌, sym, refl, ap, ◌∙◌, arith}
+use Rattle.std.proofs.Common.{◌≡◌, refl, ap, ◌∙◌, arith}
 use Rattle.store.specs.Meaning.{without_slot}
 use Rattle.store.proofs.Changes.{without_slots, slots_none, slots_more, slots_all}
 use Rattle.pool.specs.Numbers.{slot_count, pool_shape}

@@ -1,4 +1,4 @@
-use Rattle.std.proofs.Common.{◌≡◌, is_some as option_is_some, sym, refl, ap, ◌∙◌}
+use Rattle.std.proofs.Common.{is_some as option_is_some, sym, ap, ◌∙◌}
 use Rattle.store.proofs.Places.{there, held_told}
 use Rattle.pool.specs.Numbers.{slot_count, pool_shape}
 use Rattle.pool.specs.Chains.{place}

@@ -1,9 +1,8 @@
-use Rattle.std.proofs.Common.{◌≡◌, ◌-◌, ◌<◌, ◌≤◌, true, false, ltb, is_some as option_is_some, Some, None, Err, sym, refl, ap, ◌∙◌, arith}
+use Rattle.std.proofs.Common.{◌≡◌, ◌-◌, ltb, is_some as option_is_some, Err, sym, refl, ap, ◌∙◌, arith}
 use Rattle.std.proofs.lemmas.Result.{err_from_is_err_and}
 use Rattle.std.proofs.lemmas.Bool.{ltb-true, ltb-false}
 use Rattle.store.specs.declared.StoreFault.TheVariants.{Occupied, NoUnits}
 use Rattle.store.specs.Meaning.{segment, count, units_free, with_segment}
-use Rattle.store.specs.Numbers.{most_octets}
 use Rattle.store.proofs.Changes.{none_if}
 use Rattle.store.proofs.Places.{there, put_occupied, put_full, put_done, refused_if, passed_if, unchanged}
 use Rattle.pool.specs.Numbers.{slot_count, block_count, blocks_for, pool_shape}

@@ -1,4 +1,4 @@
-use Rattle.std.proofs.Common.{◌≡◌, ◌-◌, sym, ap}
+use Rattle.std.proofs.Common.{◌-◌, sym, ap}
 use Rattle.rack.specs.Numbers.{place_count}
 use Rattle.rack.specs.Ring.{units_held}
 use Rattle.rack.proofs.calls.RackOutlet.free.Goals as goal

@@ -1,4 +1,4 @@
-use Rattle.std.proofs.Common.{◌≡◌, ◌+◌, ◌-◌, ◌%◌, ◌<◌, length, sym, refl, ap, ◌∙◌, arith, length-set}
+use Rattle.std.proofs.Common.{◌+◌, ◌-◌, ◌%◌, ◌<◌, sym, refl, ap, ◌∙◌, arith, length-set}
 use Rattle.warning.specs.Meaning.{said}
 use Rattle.warning.specs.Notice.{outline}
 use Rattle.outlet.proofs.Answered.{give_done}
@@ -17,7 +17,7 @@ invariant_of-self c =
     let p = place s.places i in
     let q = c.keep.new.self in
     let right = sym c.in_ok-judge.ensures.exact in
-    let old = s.long i (omega (arith, s.all)) in record { all = length-set s.places i _ ∙ s.all; low = s.low; few = omega (arith, s.few); long = long_set s.places s.all s.long s.right i q low (kept_long w p q c.keep.ensures right old); right = right_set s.places s.all s.long s.right i q low (kept_right w p q c.keep.ensures right old); }
+    let old = s.long i (omega (arith, s.all)) in record { all = length-set s.places i _ ∙ s.all; low = s.low; few = omega (arith, s.few); long = long_set s.places s.all s.long s.right i q low (kept_long w p q c.keep.ensures right old); right = right_set s.places s.all s.long s.right i q low (kept_right w p q c.keep.ensures right old) }
 
 pub returns : goal.returns
 returns c =

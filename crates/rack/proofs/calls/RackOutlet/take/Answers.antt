@@ -1,4 +1,4 @@
-use Rattle.std.proofs.Common.{◌≡◌, length, sym, refl, ap, ◌∙◌, arith}
+use Rattle.std.proofs.Common.{length, sym, refl, ◌∙◌}
 use Rattle.outlet.proofs.Answered.{take_long, some_taken}
 use Rattle.rack.specs.Holding.{holding}
 use Rattle.rack.specs.Ring.{some_held, without_oldest}

@@ -1,4 +1,4 @@
-use Rattle.std.proofs.Common.{◌≡◌, ◌-◌, take, sym, ap}
+use Rattle.std.proofs.Common.{◌-◌, take, sym, ap}
 use Rattle.tape_outlet.specs.Numbers.{tape_octets}
 use Rattle.tape_outlet.specs.Holding.{holding}
 use Rattle.tape_outlet.specs.Kept.{kept, used_costs}

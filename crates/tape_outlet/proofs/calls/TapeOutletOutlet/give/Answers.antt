@@ -1,4 +1,4 @@
-use Rattle.std.proofs.Common.{◌≡◌, ◌+◌, ◌-◌, ◌≤◌, length, take, Err, sym, refl, ap, ◌∙◌, arith}
+use Rattle.std.proofs.Common.{◌≡◌, ◌-◌, length, take, Err, sym, refl, ap, ◌∙◌, arith}
 use Rattle.octets.proofs.Writes.{length-written}
 use Rattle.warning.specs.Meaning.{said}
 use Rattle.warning.specs.Notice.{outline}
