@@ -1,6 +1,6 @@
 -- Searches and counts of entries: one step of each, and what a search tells.
 use Rattle.std.proofs.Common.{◌≡◌, ℕ, ◌+◌, ◌<◌, Bool, true, false, cond, List, [], ◌∷◌, length, get_or, take, drop, is_some, Some, None, Decides, Option, sym, refl, ap, ◌∙◌, arith}
-use Rattle.std.specs.List.{AllByRecursion as All}
+use Rattle.std.specs.List.{AllByRecursion}
 use Rattle.std.proofs.lemmas.List.{at_drop_more, get_or_read}
 use Rattle.std.proofs.ByRecursion.{All-weaker}
 use Rattle.std.proofs.lemmas.List.Sums.{sum_by_more}
@@ -29,7 +29,7 @@ module _ {X : Type 0} (p : X → Bool) where
   some_none true n o e = absurd (let z : ◌≡◌ {A = ℕ} 0 1 = cc in omega arith)
   some_none false n o e = (refl, e)
 
-  pub first_none : (xs : List X) (n : ℕ) → first_from p n xs ≡ None → All (λ x. p x ≡ false) xs
+  pub first_none : (xs : List X) (n : ℕ) → first_from p n xs ≡ None → AllByRecursion (λ x. p x ≡ false) xs
   first_none [] n e = tt
   first_none (x ∷ xs) n e =
       let t = some_none (p x) n (first_from p (n + 1) xs) e in

@@ -1,6 +1,6 @@
 -- Lists of keys with the clock of their storing, the oldest first, for every kind of key.
 use Rattle.std.specs.Prelude.{◌≡◌, ℕ, ◌+◌, ◌-◌, ◌<◌, Bool, cond, not, List, [], ◌∷◌, ◌++◌, length, Some, None, count_by, filter, Option, ◌≢◌, nat_le, slice_index_or}
-use Rattle.std.specs.List.{remove, AllByRecursion as All}
+use Rattle.std.specs.List.{remove, AllByRecursion}
 use Rattle.keys.specs.declared.Entry.{Entry}
 
 -- where the first element that passes a test stands, the places counted from n
@@ -30,7 +30,7 @@ module _ {K : Type 0} where
 
   -- at the place that is found the key stands; where none is found, it stands nowhere
   abbrev pub Found : K → List (Entry K) → Option ℕ → Type 0
-  Found key xs None = All (λ e. e.key ≢ key) xs
+  Found key xs None = AllByRecursion (λ e. e.key ≢ key) xs
   Found key xs (Some i) = (i < length xs) × ((d : Entry K) → (slice_index_or xs i d).key ≡ key)
 
   -- how many entries are of a key's group

@@ -1,6 +1,6 @@
 -- What an outlet means: the warnings that it holds, the oldest first, and its room.
 use Rattle.std.specs.Prelude.{◌≡◌, ℕ, ◌-◌, ◌≤◌, true, List, sum_by, Option}
-use Rattle.std.specs.List.{AllByRecursion as All}
+use Rattle.std.specs.List.{AllByRecursion}
 use Rattle.warning.specs.declared.Pair.{Pair}
 use Rattle.warning.specs.declared.Outline.{Outline}
 use Rattle.warning.specs.declared.Outline.TheVariants.{Primary, Message}
@@ -21,7 +21,7 @@ pub record Lawful (room : Room) : Type 0 where
 
 -- each is a warning
 abbrev pub Warnings : List Notice → Type 0
-Warnings ws = All (λ w. is_warning (outline w) ≡ true) ws
+Warnings ws = AllByRecursion (λ w. is_warning (outline w) ≡ true) ws
 
 -- the units that warnings cost together, and the units that are free while they are held
 abbrev pub costs : Room → List Notice → ℕ
