@@ -26,6 +26,7 @@ pub trait Key: Copy {
     fn is_grouped_with(&self, other: &Self) -> bool
         ensures { result ≡ grouped self.now other.now };
 
+    // The laws, which each type with this trait proves.
     ghost decides: { (x y : Self) → Decides (same x y) (x ≡ y) };
 
     ghost itself: { (x : Self) → grouped x x ≡ true };

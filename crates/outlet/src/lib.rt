@@ -91,6 +91,7 @@ pub trait Outlet {
     fn cost(&self, outline: Outline) -> Result<usize, WarningFault>
         ensures { result ≡ cost_outcome (room self.now) outline };
 
+    // The laws, which each type with this trait proves.
     ghost lawful: { (o : Self) → Lawful (room o) };
 
     ghost within: { (o : Self) → costs (room o) (warnings o) ≤ (room o).total };

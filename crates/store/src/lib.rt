@@ -130,6 +130,7 @@ pub trait Store {
         ensures value { result ≡ copy_outcome (shape self.now) (held self.now) slot number (length memory.old) }
         ensures after { memory.new ≡ (if is_ok result then copied (held self.now slot number) memory.old else memory.old) };
 
+    // The laws, which each type with this trait proves.
     ghost lawful: { (s : Self) → Lawful (shape s) };
 
     ghost within: { (s : Self) → units (shape s) (held s) ≤ (shape s).total };
