@@ -10,3 +10,6 @@ pub mod Firsts
 pub mod Steps
 pub mod Lists
 pub mod Ends
+pub mod Outcomes
+pub mod Judgements
+pub mod Continued

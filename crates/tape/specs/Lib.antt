@@ -7,3 +7,4 @@ pub mod Cursors
 pub mod Promises
 pub mod Readers
 pub mod Heads
+pub mod Judging

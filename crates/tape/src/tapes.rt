@@ -5,6 +5,7 @@ ghost use Rattle.tape.specs.Format.{encode_all};
 ghost use Rattle.tape.specs.Promises.{ReadsWhatWasWritten, WritesWhatWasRead};
 ghost use Rattle.tape.specs.Readers.{whole_tape, stands_at, read_so_far, Next, ReadAs};
 ghost use Rattle.tape.specs.Reading.{place, read_tape};
+ghost use Rattle.tape.specs.Judging.{WrongForGood, CutShort};
 
 use crate::cursor::Cursor;
 use crate::fault::{ReadError, WriteError};
@@ -83,6 +84,7 @@ impl<'a> TapeReader<'a> {
 pub fn read(heap: Global, tape: &[u8]) -> Result<Vec<WarningBuf>, ReadError>
     ensures value { ReadAs (read_tape tape.now) result }
     ensures writes_back { IfOk result (λ ws. encode_all (map owned ws.items) ≡ tape.now) }
+    ensures judged { WrongForGood × CutShort }
 {
     let mut reader = TapeReader::new(heap, tape);
     while reader.next(heap)?.is_some() {}
