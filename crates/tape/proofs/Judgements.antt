@@ -3,7 +3,6 @@ use Rattle.std.proofs.Common.{◌≡◌, ℕ, zero, suc, ◌+◌, ◌-◌, ◌<�
 use Rattle.std.proofs.lemmas.List.{length-append, length-replicate, nil_from_length}
 use Rattle.std.proofs.lemmas.Bool.{cases_Bool, and_parts, and_from, ltb-true, lt-ltb, leb-true, le-leb, eq-eqb}
 use Rattle.octets.specs.Octets.{two_at}
-use Rattle.warning.specs.declared.Pair.{Pair}
 use Rattle.warning.specs.Notice.{Notice, primary, message}
 use Rattle.warning.specs.Rules.{carries_message, limit}
 use Rattle.tape.specs.declared.fault.TapeFault.TheVariants.{Ended}
