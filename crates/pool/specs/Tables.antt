@@ -4,7 +4,7 @@ use Rattle.std.proofs.Common.{sym, ◌∙◌, ap, ⊎_elim, arith}
 use Rattle.std.proofs.Math.Path.{fun_ext}
 use Rattle.std.proofs.lemmas.List.{get_or-set_same, get_or-set_other}
 use Rattle.std.proofs.lemmas.Bool.{cases_eq, cases_lt, eq-eqb, ne_eqb, lt-ltb, le-ltb, and_right, and_left}
-use Rattle.store.specs.Meaning.{Segment, Placed, Lawful, standing, count_of, lengths_of, replaced, paid}
+use Rattle.store.specs.Meaning.{Segment, Placed, Lawful, standing, count_of, lengths_of, replaced, paid, units}
 use Rattle.store.specs.Numbers.{number_count, most_octets}
 use Rattle.store.specs.Outcomes.{index}
 use Rattle.store.proofs.Places.{There}
@@ -36,6 +36,10 @@ sound p = record {
   apart = disjoint p.next (head p.places p.free) (size p.places p.used.all) p.apart;
   fitting = p.fitting;
 }
+
+-- the units held never exceed the total
+pub units_within : (p : Pool) → units pool_shape (held_in p.octets p.next p.places) ≤ pool_shape.total
+units_within p = omega (arith, p.all, p.within)
 
 -- what stands at a place
 past : (octets next : List ℕ) (ps : List (Option Place)) (s k : ℕ) → number_count ≤ k → held_in octets next ps s k ≡ None

@@ -7,8 +7,7 @@ ghost use Rattle.pool.specs.Numbers.{slot_count, place_count, block_count, block
 ghost use Rattle.pool.specs.Chains.{place, more, less};
 ghost use Rattle.pool.specs.Holding.{holding};
 ghost use Rattle.pool.specs.Tables;
-ghost use Rattle.std.proofs.Common.{arith};
-ghost use Rattle.pool.specs.Tables.{sound, all_placed};
+ghost use Rattle.pool.specs.Tables.{sound, units_within, all_placed};
 
 use crate::chains::{blocks_for, gather, lay, link_end};
 use crate::numbers::*;
@@ -155,7 +154,7 @@ impl Store for Pool {
 
     ghost lawful = { λ s. Tables.lawful };
 
-    ghost within = { λ s. omega (arith, s.all, s.within) };
+    ghost within = { units_within };
 
     ghost placed = { λ s slot number. all_placed s.places s.octets s.next s.free s.used.all (sound s) slot number };
 

@@ -1,5 +1,5 @@
 -- The places of a rack, one after another.
-use Rattle.std.specs.Prelude.{◌≡◌, ℕ, zero, suc, ◌+◌, ◌-◌, ◌%◌, ◌<◌, true, List, [], ◌∷◌, ◌++◌, length, get_or, take, Some, ◌≢◌, slice_index_or, slice_set, refl}
+use Rattle.std.specs.Prelude.{◌≡◌, ℕ, zero, suc, ◌+◌, ◌-◌, ◌%◌, ◌<◌, ◌≤◌, true, List, [], ◌∷◌, ◌++◌, length, get_or, take, Some, ◌≢◌, slice_index_or, slice_set, refl}
 use Rattle.std.proofs.Common.{sym, ◌∙◌, ap, ⊎_elim, arith}
 use Rattle.std.proofs.lemmas.List.{get_or-set_same, get_or-set_other, length-set}
 use Rattle.std.proofs.lemmas.List.Sums.{sum_by-cons}
@@ -28,6 +28,10 @@ units_held ps i (suc n) =
     let more = sum_by-cons (λ w. 1) (lies (place ps i)) (held_from ps (next i) n) in
     let rest = units_held ps (next i) n in
     more ∙ omega arith
+
+-- what the warnings held cost never exceeds the total
+pub costs_within : (ps : List Place) (i n : ℕ) → n ≤ place_count → costs rack_room (held_from ps i n) ≤ rack_room.total
+costs_within ps i n few = omega (arith, units_held ps i n, few)
 
 -- the places that follow one another are other places
 pub pushed : (ps : List Place) (i n j : ℕ) (p : Place) → length ps ≡ place_count → i < place_count → n < place_count → j ≡ (i + n) % place_count → held_from (slice_set ps j p) i (suc n) ≡ held_from ps i n ++ (lies p ∷ [])

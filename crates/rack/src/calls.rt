@@ -9,8 +9,7 @@ ghost use Rattle.rack.specs.Numbers.{rack_room};
 ghost use Rattle.rack.specs.Placed.{kept_in};
 ghost use Rattle.rack.specs.Holding.{holding};
 ghost use Rattle.rack.specs.Ring;
-ghost use Rattle.std.proofs.Common.{arith};
-ghost use Rattle.rack.specs.Ring.{units_held, warnings_held};
+ghost use Rattle.rack.specs.Ring.{costs_within, warnings_held};
 
 use crate::numbers::*;
 use crate::{Place, Rack};
@@ -86,7 +85,7 @@ impl Outlet for Rack {
 
     ghost lawful = { λ s. Ring.lawful };
 
-    ghost within = { λ s. omega (arith, units_held s.places s.oldest s.count, s.few) };
+    ghost within = { λ s. costs_within s.places s.oldest s.count s.few };
 
     ghost right = { λ s. warnings_held s.places s.all s.long s.right s.oldest s.count s.low };
 
