@@ -5,7 +5,7 @@ use Rattle.warning.specs.Notice.{Notice}
 use Rattle.tape.specs.declared.fault.TapeFault.{TapeFault}
 use Rattle.tape.specs.declared.fault.TapeFault.TheVariants.{Unknown, Ended}
 use Rattle.tape.specs.Reading.{Place, place, entry, prepended, followed, read_tape}
-use Rattle.tape.specs.Judging.{WrongForGood, CutShort}
+use Rattle.tape.specs.Judging.{AreOctets, WrongForGood, CutShort}
 use Rattle.tape.proofs.Whole.{all_read, all_read_step}
 use Rattle.tape.proofs.Steps.{read_less}
 use Rattle.tape.proofs.Outcomes.{Outcome, read, wrong, short, as_it_is}
@@ -15,7 +15,7 @@ use Rattle.tape.proofs.Judgements.{judged_entry}
 data Tape (at : ℕ) (t : List ℕ) : Type 0 where
   readable : (ws : List Notice) → all_read (place at t) ≡ Ok ws → Tape at t
   refused : (offset : ℕ) → ((more : List ℕ) → all_read (place at (t ++ more)) ≡ Err (Unknown offset)) → Tape at t
-  ended : all_read (place at t) ≡ Err (Ended (at + length t)) → (fill : List ℕ) (ws : List Notice) → all_read (place at (t ++ fill)) ≡ Ok ws → Tape at t
+  ended : all_read (place at t) ≡ Err (Ended (at + length t)) → (fill : List ℕ) (ws : List Notice) → AreOctets fill → all_read (place at (t ++ fill)) ≡ Ok ws → Tape at t
 
 -- the first warning, and what follows it
 first_read : (p : Place) (w : Notice) (q : Place) → 0 < length p.rest → entry p ≡ Ok (w, q) → all_read p ≡ prepended w (all_read q)
@@ -35,7 +35,7 @@ module _ (at x : ℕ) (t : List ℕ) where
       elim tape [
         | readable ws h ↦ readable (w ∷ ws) (alone ∙ ap (prepended w) h)
         | refused offset h ↦ refused offset (λ more. first more ∙ ap (prepended w) (h more))
-        | ended h fill ws k ↦ ended (alone ∙ ap (prepended w) h ∙ ap (λ n. Err (Ended n)) e) fill (w ∷ ws) (first fill ∙ ap (prepended w) k)
+        | ended h fill ws octets k ↦ ended (alone ∙ ap (prepended w) h ∙ ap (λ n. Err (Ended n)) e) fill (w ∷ ws) octets (first fill ∙ ap (prepended w) k)
       ]
 
   -- an entry has some octets, so fewer than all follow it
@@ -45,10 +45,10 @@ module _ (at x : ℕ) (t : List ℕ) where
       let less = read_less (place at (x ∷ t)) w (place after rest) alone in
       after_first w after rest e gives (others after rest (omega arith))
   at_entry n l others (wrong offset some gives) = refused offset (λ more. first_refused (place at (x ∷ (t ++ more))) _ (omega arith) (gives more))
-  at_entry n l others (short ends fill w after gives) =
+  at_entry n l others (short ends fill octets w after gives) =
       ended
       (first_refused (place at (x ∷ t)) _ (omega arith) ends)
-      fill (w ∷ [])
+      fill (w ∷ []) octets
       (ap (λ z. all_read (place at (x ∷ (t ++ z)))) (sym (append-nil fill)) ∙ first_read (place at (x ∷ (t ++ (fill ++ [])))) w (place after []) (omega arith) (gives []))
 
 judged_tape : (n at : ℕ) (t : List ℕ) → length t ≤ n → Tape at t
@@ -61,21 +61,21 @@ stays_wrong tape more offset (readable ws h) e = let z : ◌≡◌ {A = ℕ} 0 1
 stays_wrong tape more offset (refused at h) e =
     let same : ◌≡◌ {A = Result (List Notice) TapeFault} (Err (Unknown at)) (Err (Unknown offset)) = sym (h []) ∙ ap (λ z. all_read (place 0 z)) (append-nil tape) ∙ e in
     h more ∙ same
-stays_wrong tape more offset (ended h fill ws k) e = let z : ◌≡◌ {A = ℕ} 0 1 = cc in absurd (omega arith)
+stays_wrong tape more offset (ended h fill ws octets k) e = let z : ◌≡◌ {A = ℕ} 0 1 = cc in absurd (omega arith)
 
 pub wrong_for_good : WrongForGood
 unfolding read_tape
 wrong_for_good tape more offset e = stays_wrong tape more offset (judged_tape (length tape) 0 tape (omega arith)) e
 
-completed : (tape : List ℕ) (offset : ℕ) → Tape 0 tape → all_read (place 0 tape) ≡ Err (Ended offset) → (offset ≡ length tape) × ((more : List ℕ) × (ws : List Notice) × (all_read (place 0 (tape ++ more)) ≡ Ok ws))
+completed : (tape : List ℕ) (offset : ℕ) → Tape 0 tape → all_read (place 0 tape) ≡ Err (Ended offset) → (offset ≡ length tape) × ((more : List ℕ) × (ws : List Notice) × (AreOctets more) × (all_read (place 0 (tape ++ more)) ≡ Ok ws))
 completed tape offset (readable ws h) e = let z : ◌≡◌ {A = ℕ} 0 1 = cc in absurd (omega arith)
 completed tape offset (refused at h) e =
     let same : ◌≡◌ {A = Result (List Notice) TapeFault} (Err (Unknown at)) (Err (Ended offset)) = sym (h []) ∙ ap (λ z. all_read (place 0 z)) (append-nil tape) ∙ e in
     let z : ◌≡◌ {A = ℕ} 0 1 = cc in
     absurd (omega arith)
-completed tape offset (ended h fill ws k) e =
+completed tape offset (ended h fill ws octets k) e =
     let same : offset ≡ 0 + length tape = cc in
-    (omega arith, (fill, ws, k))
+    (omega arith, (fill, ws, octets, k))
 
 pub cut_short : CutShort
 unfolding read_tape

@@ -1,9 +1,11 @@
 -- What reading something comes to when more octets follow: it stays read, it stays wrong, or some octets complete it.
 use Rattle.std.proofs.Common.{◌≡◌, ℕ, zero, suc, ◌+◌, ◌<◌, ◌≤◌, Bool, true, false, List, [], ◌∷◌, ◌++◌, length, take, drop, Ok, Err, sym, refl, ap, ◌∙◌, ⊎_elim, arith}
 use Rattle.std.proofs.lemmas.List.{append_assoc, append-nil, length-append, length-drop, nil_from_length, take_all, take-append-le, drop-append-le}
+use Rattle.std.proofs.lemmas.List.Elements.{All-append}
 use Rattle.std.proofs.lemmas.Bool.{cases_Bool, cases_lt, both_ways}
 use Rattle.tape.specs.declared.fault.TapeFault.TheVariants.{Unknown, Ended}
 use Rattle.tape.specs.Reading.{Place, place, Read, then, operand}
+use Rattle.tape.specs.Judging.{AreOctets}
 use Rattle.tape.proofs.Takes.{then_is, operand_at}
 use Rattle.tape.proofs.Splits.{then_err, operand_wrong, operand_short, operand_long}
 
@@ -12,7 +14,7 @@ use Rattle.tape.proofs.Splits.{then_err, operand_wrong, operand_short, operand_l
 pub data Outcome {X : Type 0} (r : Place → Read X) (at : ℕ) (t : List ℕ) : Type 0 where
   read : (x : X) (after : ℕ) (rest : List ℕ) → after + length rest ≡ at + length t → length rest ≤ length t → ((more : List ℕ) → r (place at (t ++ more)) ≡ Ok (x, place after (rest ++ more))) → Outcome r at t
   wrong : (offset : ℕ) → 0 < length t → ((more : List ℕ) → r (place at (t ++ more)) ≡ Err (Unknown offset)) → Outcome r at t
-  short : r (place at t) ≡ Err (Ended (at + length t)) → (fill : List ℕ) (x : X) (after : ℕ) → ((more : List ℕ) → r (place at (t ++ (fill ++ more))) ≡ Ok (x, place after more)) → Outcome r at t
+  short : r (place at t) ≡ Err (Ended (at + length t)) → (fill : List ℕ) → AreOctets fill → (x : X) (after : ℕ) → ((more : List ℕ) → r (place at (t ++ (fill ++ more))) ≡ Ok (x, place after more)) → Outcome r at t
 
 abbrev pub Judged : {X : Type 0} → (Place → Read X) → Type 0
 Judged r = (at : ℕ) (t : List ℕ) → Outcome r at t
@@ -29,25 +31,25 @@ module _ {X Y : Type 0} (r : Place → Read X) (f : X → Place → Read Y) (at 
   after_read : (x : X) (after : ℕ) (rest : List ℕ) → after + length rest ≡ at + length t → length rest ≤ length t → ((more : List ℕ) → r (place at (t ++ more)) ≡ Ok (x, place after (rest ++ more))) → Outcome (f x) after rest → Outcome (λ p. then (r p) f) at t
   after_read x after rest e l gives (read y end last e₁ l₁ gives₁) = read y end last (omega arith) (omega arith) (λ more. then_is _ f x (place after (rest ++ more)) (gives more) ∙ gives₁ more)
   after_read x after rest e l gives (wrong offset some gives₁) = wrong offset (omega arith) (λ more. then_is _ f x (place after (rest ++ more)) (gives more) ∙ gives₁ more)
-  after_read x after rest e l gives (short ends fill y end gives₁) =
+  after_read x after rest e l gives (short ends fill octets y end gives₁) =
       short
       (ap (λ z. then z f) (as_it_is r at t) ∙ then_is _ f x (place after (rest ++ [])) (gives []) ∙ sym (as_it_is (f x) after rest) ∙ ends ∙ ap (λ n. Err (Ended n)) e)
-      fill y end
+      fill octets y end
       (λ more. then_is _ f x (place after (rest ++ (fill ++ more))) (gives (fill ++ more)) ∙ gives₁ more)
 
-  after_short : r (place at t) ≡ Err (Ended (at + length t)) → (fill : List ℕ) (x : X) (after : ℕ) → ((more : List ℕ) → r (place at (t ++ (fill ++ more))) ≡ Ok (x, place after more)) → Outcome (f x) after [] → Outcome (λ p. then (r p) f) at t
-  after_short ends fill x after gives (read y end last e l gives₁) =
+  after_short : r (place at t) ≡ Err (Ended (at + length t)) → (fill : List ℕ) → AreOctets fill → (x : X) (after : ℕ) → ((more : List ℕ) → r (place at (t ++ (fill ++ more))) ≡ Ok (x, place after more)) → Outcome (f x) after [] → Outcome (λ p. then (r p) f) at t
+  after_short ends fill octets x after gives (read y end last e l gives₁) =
       let none : last ≡ [] = nil_from_length last (omega arith) in
-      short (then_err _ f _ ends) fill y end (λ more. then_is _ f x (place after more) (gives more) ∙ gives₁ more ∙ ap (λ z. Ok (y, place end (z ++ more))) none)
-  after_short ends fill x after gives (wrong offset some gives₁) = absurd (omega arith)
-  after_short ends fill x after gives (short ends₁ fill₁ y end gives₁) =
-      short (then_err _ f _ ends) (fill ++ fill₁) y end (λ more.
+      short (then_err _ f _ ends) fill octets y end (λ more. then_is _ f x (place after more) (gives more) ∙ gives₁ more ∙ ap (λ z. Ok (y, place end (z ++ more))) none)
+  after_short ends fill octets x after gives (wrong offset some gives₁) = absurd (omega arith)
+  after_short ends fill octets x after gives (short ends₁ fill₁ octets₁ y end gives₁) =
+      short (then_err _ f _ ends) (fill ++ fill₁) (All-append (λ z. z < 256) fill fill₁ octets octets₁) y end (λ more.
       ap (λ z. then (r (place at (t ++ z))) f) (append_assoc fill fill₁ more) ∙ then_is _ f x (place after (fill₁ ++ more)) (gives (fill₁ ++ more)) ∙ gives₁ more)
 
   after_first : Outcome r at t → ((x : X) → Judged (f x)) → Outcome (λ p. then (r p) f) at t
   after_first (read x n rest e l gives) b = after_read x n rest e l gives (b x n rest)
   after_first (wrong offset some gives) b = wrong offset some (λ more. then_err _ f _ (gives more))
-  after_first (short ends fill x n gives) b = after_short ends fill x n gives (b x n [])
+  after_first (short ends fill octets x n gives) b = after_short ends fill octets x n gives (b x n [])
 
 pub judged_then : {X Y : Type 0} (r : Place → Read X) (f : X → Place → Read Y) → Judged r → ((x : X) → Judged (f x)) → Judged (λ p. then (r p) f)
 judged_then r f a b at t = after_first r f at t (a at t) b
@@ -57,7 +59,7 @@ judged_then r f a b at t = after_first r f at t (a at t) b
 pub record Beginnings (w : ℕ) (begins : List ℕ → Bool) : Type 0 where
   pub none : begins [] ≡ true
   pub fewer : (xs ys : List ℕ) → begins (xs ++ ys) ≡ true → begins xs ≡ true
-  pub filled : (xs : List ℕ) → length xs < w → begins xs ≡ true → (ys : List ℕ) × (length (xs ++ ys) ≡ w) × (begins (xs ++ ys) ≡ true)
+  pub filled : (xs : List ℕ) → length xs < w → begins xs ≡ true → (ys : List ℕ) × (AreOctets ys) × (length (xs ++ ys) ≡ w) × (begins (xs ++ ys) ≡ true)
 
 -- more octets leave the front of an operand as it is
 take_front : (w : ℕ) (t more : List ℕ) → (ys : List ℕ) × (take w (t ++ more) ≡ take w t ++ ys)
@@ -82,8 +84,8 @@ module _ (w : ℕ) (begins : List ℕ → Bool) (test : Beginnings w begins) (at
   operand_begun t l h =
       let whole : take w t ≡ t = take_all w t (omega arith) in
       let s = test.filled t l (ap begins (sym whole) ∙ h) in
-      short (operand_short w begins at t h l) s.0 (t ++ s.0) (at + w) (λ more.
-      ap (λ z. operand w begins (place at z)) (sym (append_assoc t s.0 more)) ∙ operand_at w begins at (t ++ s.0) more s.1 s.2)
+      short (operand_short w begins at t h l) s.0 s.1 (t ++ s.0) (at + w) (λ more.
+      ap (λ z. operand w begins (place at z)) (sym (append_assoc t s.0 more)) ∙ operand_at w begins at (t ++ s.0) more s.2 s.3)
 
   operand_whole : (t : List ℕ) → w ≤ length t → begins (take w t) ≡ true → Outcome (operand w begins) at t
   operand_whole t l h =
