@@ -123,7 +123,7 @@ primary_ok p w q e =
     (operand_ok 50 (λ ys. cond (eqb flag 0) (all_zero ys) true) p₃ xs p₅ e₅)
     (ap (primary pair t) is.0 ∙ made.0, is.1 ∙ made.1))))))
 
-pub right_flag : (security : Option (List ℕ)) → leb (flag_of security) 1 ≡ true
+right_flag : (security : Option (List ℕ)) → leb (flag_of security) 1 ≡ true
 right_flag None = refl
 right_flag (Some xs) = refl
 
@@ -253,7 +253,7 @@ message_ok p w q e =
     (ok_parts (message block pair coding ms (present flag as')) w p₈ q k₈)))))))))
 
 -- an area that stands on tape, and what its flag and length may be
-pub area_fits : (block octets : ℕ) (area : Option (List ℕ)) → not (without_area block && is_some (option_map length area)) ≡ true → octets + unwrap_or (option_map length area) 0 ≤ limit block → (leb (flag_of area) (most_flag block) ≡ true) × (length (octets_of area) ≤ most_area block octets (flag_of area)) × (present (flag_of area) (octets_of area) ≡ area)
+area_fits : (block octets : ℕ) (area : Option (List ℕ)) → not (without_area block && is_some (option_map length area)) ≡ true → octets + unwrap_or (option_map length area) 0 ≤ limit block → (leb (flag_of area) (most_flag block) ≡ true) × (length (octets_of area) ≤ most_area block octets (flag_of area)) × (present (flag_of area) (octets_of area) ≡ area)
 area_fits block octets None h k = (le-leb 0 (most_flag block) (omega arith), omega arith, refl)
 area_fits block octets (Some xs) h k =
     let other = some_allowed (without_area block) h in

@@ -5,8 +5,10 @@ pub mod Entries
 pub mod Whole
 pub mod Splits
 pub mod Gathers
-pub mod Fronts
-pub mod Firsts
+pub mod Outlines
+pub mod Bodies
+pub mod Readings
+pub mod Copies
 pub mod Steps
 pub mod Lists
 pub mod Ends

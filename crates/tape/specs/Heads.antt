@@ -1,19 +1,22 @@
--- Reading a warning without its octets, and its octets by themselves.
-use Rattle.std.specs.Prelude.{◌≡◌, ℕ, true, cond, List, ◌++◌, replicate, Some, None, Ok, Err, Option, Result, ◌==◌, nat_le}
+-- Reading one warning: its head tells its outline, and its body has its octets.
+use Rattle.std.specs.Prelude.{◌≡◌, ℕ, true, cond, List, take, drop, Ok, Err, Result, ◌==◌, nat_le}
+use Rattle.std.specs.Option.{option_map, unwrap_or}
 use Rattle.octets.specs.Octets.{written}
 use Rattle.warning.specs.declared.Pair.{Pair}
 use Rattle.warning.specs.declared.Outline.{Outline}
 use Rattle.warning.specs.declared.Outline.TheVariants.{Primary, Message}
+use Rattle.warning.specs.Contents.{octets}
 use Rattle.warning.specs.Notice.{Notice, primary, message}
 use Rattle.warning.specs.Numbers.{security_octets}
 use Rattle.warning.specs.Rules.{carries_message, limit}
 use Rattle.tape.specs.declared.cursor.Cursor.{Cursor}
 use Rattle.tape.specs.declared.fault.TapeFault.{TapeFault}
 use Rattle.tape.specs.declared.fault.TapeFault.TheVariants.{Unknown}
+use Rattle.tape.specs.declared.fault.ReadError.{ReadError}
+use Rattle.tape.specs.declared.fault.ReadError.TheVariants.{Fault, Memory}
 use Rattle.tape.specs.Numbers.{primary_command, message_command}
-use Rattle.tape.specs.Format.{pieces, octets_of}
 use Rattle.tape.specs.Cursors.{stands}
-use Rattle.tape.specs.Reading.{Place, Read, then, octet, number, number_to, pair_operands, present, part, most_flag, most_area}
+use Rattle.tape.specs.Reading.{Place, Read, then, operand, octet, number, number_to, pair_operands, all_zero, present, part, most_flag, most_area}
 
 -- the operands of a primary, up to its security information
 unfoldable pub primary_outline : Place → Read Outline
@@ -38,29 +41,49 @@ message_outline p =
     then (octet (λ coding. true) p) (λ coding p.
     lengths_outline block pair coding p)))
 
+-- the operands that belong to a command
 abbrev pub outline_by : ℕ → ℕ → Place → Read Outline
 outline_by command at p =
     cond (command == primary_command) (primary_outline p)
     (cond (command == message_command) (message_outline p) (Err (Unknown at)))
 
-unfoldable pub entry_outline : Place → Read Outline
-entry_outline p = then (octet (λ c. true) p) (λ command q. outline_by command p.at q)
+-- the head of a warning: its command octet and the operands that tell its outline
+unfoldable pub head : Place → Read Outline
+head p = then (octet (λ c. true) p) (λ command q. outline_by command p.at q)
 
--- the octets of security information, zeros where it is absent
-abbrev pub security_list : Option (List ℕ) → List ℕ
-security_list None = replicate security_octets 0
-security_list (Some xs) = xs
+-- The body of a warning whose outline is known: the security information in its operand, with
+-- zeros past it, or the data commands of the message and of the area.
+unfoldable pub body : Outline → Place → Read Notice
+body (Primary pair warning-type security) p =
+    then (operand security_octets (λ xs. all_zero (drop (unwrap_or security 0) xs)) p) (λ xs p.
+    Ok (primary pair warning-type (option_map (λ n. take n xs) security), p))
+body (Message block pair coding count area) p =
+    then (part count p) (λ xs p.
+    then (part (unwrap_or area 0) p) (λ ys p.
+    Ok (message block pair coding xs (option_map (λ n. ys) area), p)))
 
--- what follows these operands in the entry of a warning
-abbrev pub data_of : Notice → List ℕ
-data_of (primary pair warning-type security) = security_list security
-data_of (message block pair coding octets area) = pieces octets ++ pieces (octets_of area)
+-- what is answered of a value and the place after it: what it means, and the offset
+abbrev pub answered : {X Y : Type 0} → (X → Y) → Read X → Result (Y × ℕ) TapeFault
+answered meaning (Ok r) = Ok (meaning r.0, r.1.at)
+answered meaning (Err f) = Err f
 
--- octets that are copied to the start of a memory
-abbrev pub Copied : List ℕ → List ℕ → List ℕ → Result (Unit {0}) TapeFault → Type 0
-Copied xs m m₁ r = (r ≡ Ok tt) × (m₁ ≡ written 0 xs m)
+-- the same in memory of its own; where that is wanting, nothing is said
+abbrev pub AnsweredAs : {X Y : Type 0} → (X → Y) → Read Y → Result (X × ℕ) ReadError → Type 0
+AnsweredAs meaning r (Ok x) = answered (λ y. y) r ≡ Ok (meaning x.0, x.1)
+AnsweredAs meaning r (Err (Fault f)) = r ≡ Err f
+AnsweredAs meaning r (Err Memory) = Unit {0}
+
+-- the octets of a warning that is read, at the start of a memory; a refusal leaves the memory as it was
+abbrev pub copied : Read Notice → List ℕ → List ℕ
+copied (Ok r) memory = written 0 (octets r.0) memory
+copied (Err f) memory = memory
+
+-- something that is read, of which only the place after it is kept
+abbrev pub Skipped : {X : Type 0} → Read X → Result Cursor TapeFault → Type 0
+Skipped {X} r (Ok c) = (x : X) × (r ≡ Ok (x, stands c))
+Skipped r (Err f) = r ≡ Err f
 
 -- a part that is copied to a place of a memory
-abbrev pub PartCopied : ℕ → Place → ℕ → List ℕ → List ℕ → Result Cursor TapeFault → Type 0
-PartCopied count p at m m₁ (Ok c) = (xs : List ℕ) × (part count p ≡ Ok (xs, stands c)) × (m₁ ≡ written at xs m)
-PartCopied count p at m m₁ (Err f) = part count p ≡ Err f
+abbrev pub PartCopied : Read (List ℕ) → ℕ → List ℕ → List ℕ → Result Cursor TapeFault → Type 0
+PartCopied r at before after (Ok c) = (xs : List ℕ) × (r ≡ Ok (xs, stands c)) × (after ≡ written at xs before)
+PartCopied r at before after (Err f) = r ≡ Err f

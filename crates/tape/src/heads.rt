@@ -1,24 +1,25 @@
-// Reading the first warning of a tape without memory of its own: its outline,
-// and its octets, which are copied to lent memory.
-ghost use Rattle.std.specs.Prelude.{◌≡◌, ℕ, ◌+◌, ◌≤◌, true, List, ◌++◌, length, IfOk, Ok, Option};
-ghost use Rattle.std.specs.Option.{option_map, unwrap_or};
+// Reading one warning from an offset on: its head alone, or all of it, in
+// memory of its own or copied to lent memory.
+ghost use Rattle.std.specs.Prelude.{◌≡◌, ℕ, ◌+◌, ◌≤◌, true, List, ◌++◌, length, take, drop, IfOk, Ok};
 ghost use Rattle.octets.specs.Octets.{written};
-ghost use Rattle.tape.specs.Format.{encode};
-ghost use Rattle.warning.specs.Contents.{octet_count, octets, part_octets};
+ghost use Rattle.warning.specs.Contents.{octets};
 ghost use Rattle.warning.specs.Notice.{Notice, outline as outline_of};
+ghost use Rattle.warning.specs.Numbers.{most_octets, security_octets};
+ghost use Rattle.warning.specs.Owned.{owned};
 ghost use Rattle.warning.specs.Rules.{is_warning};
-ghost use Rattle.warning.specs.Numbers.{most_octets};
 ghost use Rattle.tape.specs.Cursors.{stands, gave, Within};
-ghost use Rattle.tape.specs.Heads.{primary_outline, lengths_outline, message_outline, entry_outline, data_of, security_list, PartCopied, Copied};
-ghost use Rattle.tape.specs.Reading.{present};
+ghost use Rattle.tape.specs.Heads.{primary_outline, lengths_outline, message_outline, head, body, answered, AnsweredAs, copied, Skipped, PartCopied};
+ghost use Rattle.tape.specs.Reading.{Place, place, operand, all_zero, present, part, entry};
 
 use crate::cursor::Cursor;
-use crate::fault::TapeFault;
+use crate::fault::*;
 use crate::numbers::*;
 use crate::operands::*;
-use crate::read::{most_area, most_flag};
+use crate::read::{entry, most_area, most_flag};
 use octets::put;
+use std::alloc::Global;
 use warning::numbers::*;
+use warning::owned::WarningBuf;
 use warning::{Outline, Pair, octet_limit};
 
 // A length, if its flag says that the part is there.
@@ -81,10 +82,10 @@ fn message_outline(input: Cursor<'_>) -> Result<(Outline, Cursor<'_>), TapeFault
     lengths_outline(block, pair, coding, rest)
 }
 
-// The outline of a warning, and where its octets follow.
-pub fn entry_outline(input: Cursor<'_>) -> Result<(Outline, Cursor<'_>), TapeFault>
+// The head of a warning: its command octet tells which operands follow.
+fn head(input: Cursor<'_>) -> Result<(Outline, Cursor<'_>), TapeFault>
     requires { Within input }
-    ensures value { gave result ≡ entry_outline (stands input.entry) }
+    ensures value { gave result ≡ head (stands input.entry) }
     ensures within { IfOk result (λ x. Within x.1) }
 {
     let (command, rest) = any_octet(input)?;
@@ -92,6 +93,42 @@ pub fn entry_outline(input: Cursor<'_>) -> Result<(Outline, Cursor<'_>), TapeFau
         PRIMARY => primary_outline(rest),
         MESSAGE => message_outline(rest),
         _ => Err(TapeFault::Unknown { offset: input.at }),
+    }
+}
+
+// Judges the data commands of a part, and answers the place after them.
+fn skip_part(input: Cursor<'_>, count: usize) -> Result<Cursor<'_>, TapeFault>
+    requires { Within input }
+    ensures value { Skipped (part count (stands input.entry)) result }
+    ensures within { IfOk result Within }
+{
+    let mut left = count;
+    let mut input = input;
+    while left > 0 {
+        let n = left.min(DATA_OCTETS);
+        let (_piece, rest) = data(input, n)?;
+        left -= n;
+        input = rest;
+    }
+    Ok(input)
+}
+
+// Judges the body of a warning whose outline is given, and answers the place
+// after it.
+fn skip_body(input: Cursor<'_>, outline: Outline) -> Result<Cursor<'_>, TapeFault>
+    requires { Within input }
+    ensures value { Skipped (body outline (stands input.entry)) result }
+    ensures within { IfOk result Within }
+{
+    match outline {
+        Outline::Primary { security, .. } => {
+            let (_octets, rest) = padded(input, SECURITY_OCTETS, security.unwrap_or(0))?;
+            Ok(rest)
+        }
+        Outline::Message { message, area, .. } => {
+            let rest = skip_part(input, message)?;
+            skip_part(rest, area.unwrap_or(0))
+        }
     }
 }
 
@@ -105,7 +142,7 @@ fn copy_part<'a>(
 ) -> Result<Cursor<'a>, TapeFault>
     requires within { Within input }
     requires fit { at + count ≤ length memory.old }
-    ensures value { PartCopied count (stands input.entry) at memory.old memory.new result }
+    ensures value { PartCopied (part count (stands input.entry)) at memory.old memory.new result }
     ensures within { IfOk result Within }
 {
     let mut left = count;
@@ -121,56 +158,90 @@ fn copy_part<'a>(
     Ok(input)
 }
 
-// Copies the security information of a length, where there is any.
-fn copy_security(
-    input: Cursor<'_>,
-    security: Option<usize>,
-    memory: &mut [u8],
-) -> Result<(), TapeFault>
+// Copies security information of a length, which has been judged.
+fn copy_security(input: Cursor<'_>, count: usize, memory: &mut [u8]) -> Result<(), TapeFault>
     requires within { Within input }
-    requires fit { unwrap_or security 0 ≤ length memory.old }
-    ensures { (xs : Option (List ℕ)) (rest : List ℕ) → option_map length xs ≡ security → input.entry.rest.now ≡ security_list xs ++ rest → Copied (part_octets xs) memory.old memory.new result }
+    requires few { count ≤ 50 }
+    requires fit { count ≤ length memory.old }
+    ensures { (xs : List ℕ) (q : Place) → operand security_octets (λ ys. all_zero (drop count ys)) (stands input.entry) ≡ Ok (xs, q) → (result ≡ Ok tt) × (memory.new ≡ written 0 (take count xs) memory.old) }
 {
-    if let Some(length) = security {
-        let (octets, _) = padded(input, length, length)?;
-        put(memory, 0, octets);
-    }
+    let (octets, _) = padded(input, SECURITY_OCTETS, count)?;
+    put(memory, 0, &octets[0..count]);
     Ok(())
 }
 
-// Copies the octets of a warning, whose outline is given, to the start of a
-// memory, where they have to fit.
-fn copy_octets(input: Cursor<'_>, outline: Outline, memory: &mut [u8]) -> Result<(), TapeFault>
+// Copies both parts of a message, one after the other. They have been judged.
+fn copy_parts(
+    input: Cursor<'_>,
+    message: usize,
+    area: usize,
+    memory: &mut [u8],
+) -> Result<(), TapeFault>
     requires within { Within input }
-    requires fit { octet_count outline ≤ length memory.old }
-    ensures { (w : Notice) (rest : List ℕ) → outline_of w ≡ outline → input.entry.rest.now ≡ data_of w ++ rest → Copied (octets w) memory.old memory.new result }
+    requires fit { message + area ≤ length memory.old }
+    ensures { (xs ys : List ℕ) (p q : Place) → part message (stands input.entry) ≡ Ok (xs, p) → part area p ≡ Ok (ys, q) → (result ≡ Ok tt) × (memory.new ≡ written 0 (xs ++ ys) memory.old) }
+{
+    let rest = copy_part(input, message, memory, 0)?;
+    copy_part(rest, area, memory, message)?;
+    Ok(())
+}
+
+// Copies the octets of a warning whose outline is given to the start of a
+// memory. Its body has been judged.
+fn copy_body(input: Cursor<'_>, outline: Outline, memory: &mut [u8]) -> Result<(), TapeFault>
+    requires within { Within input }
+    requires right { is_warning outline ≡ true }
+    requires fit { most_octets ≤ length memory.old }
+    ensures { (w : Notice) (q : Place) → body outline (stands input.entry) ≡ Ok (w, q) → (result ≡ Ok tt) × (memory.new ≡ written 0 (octets w) memory.old) }
 {
     match outline {
-        Outline::Primary { security, .. } => copy_security(input, security, memory),
+        Outline::Primary { security, .. } => copy_security(input, security.unwrap_or(0), memory),
         Outline::Message { message, area, .. } => {
-            let input = copy_part(input, message, memory, 0)?;
-            copy_part(input, area.unwrap_or(0), memory, message)?;
-            Ok(())
+            copy_parts(input, message, area.unwrap_or(0), memory)
         }
     }
 }
 
-// The outline of the first warning of a tape.
-pub fn first_outline(tape: &[u8]) -> Result<Outline, TapeFault>
-    ensures { (w : Notice) (rest : List ℕ) → is_warning (outline_of w) ≡ true → tape.now ≡ encode w ++ rest → result ≡ Ok (outline_of w) }
+// The octets from an offset on; there are none past the end.
+fn cursor_at(tape: &[u8], at: usize) -> Cursor<'_>
+    ensures place { stands result ≡ place at (drop at tape.now) }
+    ensures within { Within result }
 {
-    let (outline, _) = entry_outline(Cursor { at: 0, rest: tape })?;
-    Ok(outline)
+    let start = at.min(tape.len());
+    Cursor {
+        at,
+        rest: &tape[start..],
+    }
 }
 
-// Copies the octets of the first warning of a tape to the start of a memory
-// that has room for every warning, and answers its outline.
-pub fn copy_first(tape: &[u8], memory: &mut [u8]) -> Result<Outline, TapeFault>
-    requires { most_octets ≤ length memory.old }
-    ensures value { (w : Notice) (rest : List ℕ) → is_warning (outline_of w) ≡ true → tape.now ≡ encode w ++ rest → result ≡ Ok (outline_of w) }
-    ensures after { (w : Notice) (rest : List ℕ) → is_warning (outline_of w) ≡ true → tape.now ≡ encode w ++ rest → memory.new ≡ written 0 (octets w) memory.old }
+// Reads the head of the warning at an offset: its outline, and the offset
+// after the head.
+pub fn read_head(tape: &[u8], at: usize) -> Result<(Outline, usize), TapeFault>
+    ensures { result ≡ answered (λ o. o) (head (place at (drop at tape.now))) }
 {
-    let (outline, rest) = entry_outline(Cursor { at: 0, rest: tape })?;
-    copy_octets(rest, outline, memory)?;
-    Ok(outline)
+    let (outline, rest) = head(cursor_at(tape, at))?;
+    Ok((outline, rest.at))
+}
+
+// Reads the warning at an offset into memory of its own, and answers it with
+// the offset after it.
+pub fn read_entry(heap: Global, tape: &[u8], at: usize) -> Result<(WarningBuf, usize), ReadError>
+    ensures { AnsweredAs owned (entry (place at (drop at tape.now))) result }
+{
+    let (warning, rest) = entry(heap, cursor_at(tape, at))?;
+    Ok((warning, rest.at))
+}
+
+// Copies the octets of the warning at an offset to the start of a memory that
+// has room for every warning, and answers its outline with the offset after
+// it. The warning is judged first: a refusal leaves the memory as it was.
+pub fn copy_entry(tape: &[u8], at: usize, memory: &mut [u8]) -> Result<(Outline, usize), TapeFault>
+    requires { most_octets ≤ length memory.old }
+    ensures value { result ≡ answered outline_of (entry (place at (drop at tape.now))) }
+    ensures after { memory.new ≡ copied (entry (place at (drop at tape.now))) memory.old }
+{
+    let (outline, rest) = head(cursor_at(tape, at))?;
+    let end = skip_body(rest, outline)?;
+    copy_body(rest, outline, memory)?;
+    Ok((outline, end.at))
 }

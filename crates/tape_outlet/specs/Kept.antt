@@ -18,9 +18,12 @@ use Rattle.tape.specs.declared.fault.WriteFault.{WriteFault}
 use Rattle.tape.specs.declared.fault.WriteFault.TheVariants.{NoWarning as NotWritten, Full as NoRoom}
 use Rattle.tape.specs.Format.{encode, encode_all, cost, part_cost}
 use Rattle.tape.specs.Promises.{all_warnings}
-use Rattle.tape.specs.Reading.{read_tape}
+use Rattle.tape.specs.Heads.{head}
+use Rattle.tape.specs.Reading.{Place, place, entry, read_tape}
 use Rattle.tape.specs.Writing.{cost_by as cost-on-tape, write_by, write_outcome, costed}
 use Rattle.tape.proofs.Costs.{length-encode}
+use Rattle.tape.proofs.Entries.{entry_at}
+use Rattle.tape.proofs.Readings.{head_of}
 use Rattle.tape.proofs.Whole.{reads_back}
 use Rattle.outlet.specs.declared.OutletFault.{OutletFault}
 use Rattle.outlet.specs.declared.OutletFault.TheVariants.{Full}
@@ -92,37 +95,38 @@ kept-first t ws w rest k e =
     let both = and_parts (is_warning (outline w)) (all_warnings rest) (ap all_warnings (sym e) ∙ k.right) in
     (both.0, sym k.is ∙ ap encode_all e, both.1)
 
-clash : {X C : Type 0} (x : X) (f : TapeFault) → ◌≡◌ {A = Result X TapeFault} (Ok x) (Err f) → C
-clash x f e = let z : ◌≡◌ {A = ℕ} 0 1 = cc in absurd (omega arith)
+-- what reading tells of the first one, and where its octets go
+pub record FirstRead (t : List ℕ) (ws : List Notice) : Type 0 where
+  pub warning : Notice
+  pub middle : Place
+  pub after : Place
+  pub whole : entry (place 0 t) ≡ Ok (warning, after)
+  pub start : head (place 0 t) ≡ Ok (outline warning, middle)
+  pub first : Some (outline warning) ≡ first_of ws
+  pub laid : (m : List ℕ) → written 0 (octets warning) m ≡ first_copied ws m
 
--- what the tape's calls tell of the first one
-abbrev Told : List ℕ → Result Outline TapeFault → Type 0
-Told t r = (w : Notice) (rest : List ℕ) → is_warning (outline w) ≡ true → t ≡ encode w ++ rest → r ≡ Ok (outline w)
+pub first_read : (t : List ℕ) (ws : List Notice) → Kept t ws → 0 < length t → FirstRead t ws
+first_read t ws k some =
+    let s = kept_some t ws k some in
+    let f = kept-first t ws s.0 s.1 k s.2 in
+    let rest = encode_all s.1 in
+    let after = place (0 + length (encode s.0)) rest in
+    let whole = ap (λ z. entry (place 0 z)) f.1 ∙ entry_at 0 s.0 rest f.0 in
+    let h = head_of (place 0 t) s.0 after whole in
+    record {
+      warning = s.0;
+      middle = h.0;
+      after = after;
+      whole = whole;
+      start = h.1;
+      first = ap first_of (sym s.2);
+      laid = λ m. ap (λ z. first_copied z m) (sym s.2);
+    }
 
-abbrev Laid : List ℕ → List ℕ → List ℕ → Type 0
-Laid t m m₁ = (w : Notice) (rest : List ℕ) → is_warning (outline w) ≡ true → t ≡ encode w ++ rest → m₁ ≡ written 0 (octets w) m
-
-module _ (t : List ℕ) (ws : List Notice) (k : Kept t ws) (some : 0 < length t) where
-  pub told_first : (r : Result Outline TapeFault) → Told t r → (o : Outline) × (r ≡ Ok o) × (Some o ≡ first_of ws)
-  told_first r told =
-      let s = kept_some t ws k some in
-      let f = kept-first t ws s.0 s.1 k s.2 in
-      (outline s.0, told s.0 (encode_all s.1) f.0 f.1, ap first_of (sym s.2))
-
-  pub not_refused : {C : Type 0} (f : TapeFault) → Told t (Err f) → C
-  not_refused f told = let s = told_first (Err f) told in clash s.0 f (sym s.1)
-
-  pub first_told : (o : Outline) → Told t (Ok o) → Some o ≡ first_of ws
-  first_told o told =
-      let s = told_first (Ok o) told in
-      let same : o ≡ s.0 = cc in
-      ap Some same ∙ s.2
-
-  pub first-laid : (m m₁ : List ℕ) → Laid t m m₁ → m₁ ≡ first_copied ws m
-  first-laid m m₁ laid =
-      let s = kept_some t ws k some in
-      let f = kept-first t ws s.0 s.1 k s.2 in
-      laid s.0 (encode_all s.1) f.0 f.1 ∙ ap (λ z. first_copied z m) (sym s.2)
+pub told_same : (o o′ : Outline) (n n′ : ℕ) → ◌≡◌ {A = Result (Outline × ℕ) TapeFault} (Ok (o, n)) (Ok (o′, n′)) → o ≡ o′
+told_same o o′ n n′ e =
+    let both : ◌≡◌ {A = Outline × ℕ} (o, n) (o′, n′) = cc in
+    ap (λ z. z.0) both
 
 -- removing it
 some_parts : (ws : List Notice) (o : Outline) → Some o ≡ first_of ws → (w : Notice) × (rest : List Notice) × (ws ≡ w ∷ rest) × (o ≡ outline w)

@@ -17,7 +17,7 @@ use crate::numbers::*;
 use outlet::standing::check_buffer;
 use outlet::{Outlet, OutletFault};
 use tape::fault::WriteFault;
-use tape::heads::{copy_first, first_outline};
+use tape::heads::{copy_entry, read_head};
 use tape::write::{cost, write};
 use warning::{Outline, Warning, WarningFault};
 
@@ -57,8 +57,8 @@ impl TapeOutlet {
         if self.used == 0 {
             return None;
         }
-        match first_outline(self.tape()) {
-            Ok(outline) => Some(outline),
+        match read_head(self.tape(), 0) {
+            Ok((outline, _)) => Some(outline),
             Err(_) => unreachable(),
         }
     }
@@ -71,8 +71,8 @@ impl TapeOutlet {
         ensures value { Some result ≡ first_of (holding self.now) }
         ensures after { buffer.new ≡ first_copied (holding self.now) buffer.old }
     {
-        match copy_first(self.tape(), buffer) {
-            Ok(outline) => outline,
+        match copy_entry(self.tape(), 0, buffer) {
+            Ok((outline, _)) => outline,
             Err(_) => unreachable(),
         }
     }

@@ -1,7 +1,7 @@
 use Rattle.std.proofs.Common.{refl, arith}
 use Rattle.std.proofs.lemmas.Result.{err_from_is_err_and}
 use Rattle.tape.specs.Cursors.{stands}
-use Rattle.tape.proofs.Fronts.{copying_start, copying_more, copying_err, copying_end, copying_long, piece_long}
+use Rattle.tape.proofs.Copies.{copying_start, copying_more, copying_err, copying_end, copying_long, piece_long}
 use Rattle.tape.proofs.heads.copy_part.Goals as goal
 
 pub loop-left-init : goal.loop-left-init

@@ -1,5 +1,5 @@
 use Rattle.tape.specs.Cursors.{stands, Within}
-use Rattle.tape.proofs.Fronts.{Copying}
+use Rattle.tape.proofs.Copies.{Copying}
 use Rattle.tape.proofs.heads.copy_part.Given as goal
 
 abbrev pub invariant-loop-left : goal.invariant-loop-left

@@ -1,7 +1,11 @@
-use Rattle.std.proofs.Common.{◌<◌, length, take, ◌∙◌, arith}
+use Rattle.std.proofs.Common.{◌<◌, length, take, Some, sym, ap, ◌∙◌, arith}
 use Rattle.std.proofs.lemmas.List.{length-take-le}
+use Rattle.warning.specs.Notice.{outline}
+use Rattle.tape.specs.Heads.{answered, copied}
+use Rattle.tape.specs.Reading.{place, entry}
+use Rattle.tape.proofs.Readings.{clash}
 use Rattle.tape_outlet.specs.Holding.{holding}
-use Rattle.tape_outlet.specs.Kept.{kept, not_refused, first_told, first-laid}
+use Rattle.tape_outlet.specs.Kept.{kept, first_read, told_same}
 use Rattle.tape_outlet.proofs.TapeOutlet.copy_oldest.Goals as goal
 
 pub unreachable-requires : goal.unreachable-requires
@@ -9,17 +13,18 @@ unreachable-requires c =
     let s = c.args.self.now in
     let t = take s.used s.octets in
     let some : 0 < length (take s.used s.octets) = omega (arith, c.requires.some, length-take-le s.used s.octets (omega (arith, s.all, s.within))) in
-    let same = c.tape.ensures.written ∙ s.written in
-    not_refused t (holding s) (kept t s.right s.written) some _ (λ w rest h k. c.in-Err.ensures.value w rest h (same ∙ k))
+    let r = first_read t (holding s) (kept t s.right s.written) some in
+    let there = ap (λ z. entry (place 0 z)) (c.tape.ensures.written ∙ s.written) ∙ r.whole in
+    clash _ _ (sym (ap (answered outline) there) ∙ sym c.in-Err.ensures.value)
 
 pub returns : goal.returns
 returns c =
     let s = c.args.self.now in
     let t = take s.used s.octets in
     let some : 0 < length (take s.used s.octets) = omega (arith, c.requires.some, length-take-le s.used s.octets (omega (arith, s.all, s.within))) in
-    let same = c.tape.ensures.written ∙ s.written in
-    let k₀ = kept t s.right s.written in
+    let r = first_read t (holding s) (kept t s.right s.written) some in
+    let there = ap (λ z. entry (place 0 z)) (c.tape.ensures.written ∙ s.written) ∙ r.whole in
     record {
-      value = first_told t (holding s) k₀ some c.in-Ok.outline (λ w rest h k. c.in-Ok.ensures.value w rest h (same ∙ k));
-      after = first-laid t (holding s) k₀ some c.args.buffer.now _ (λ w rest h k. c.in-Ok.ensures.after w rest h (same ∙ k));
+      value = ap Some (told_same c.in-Ok.outline _ _ _ (c.in-Ok.ensures.value ∙ ap (answered outline) there)) ∙ r.first;
+      after = c.in-Ok.ensures.after ∙ ap (λ z. copied z c.args.buffer.now) there ∙ r.laid c.args.buffer.now;
     }

@@ -1,27 +1,30 @@
--- The first warning of a tape: its outline, and its octets copied to memory.
-use Rattle.std.proofs.Common.{◌≡◌, ℕ, ◌+◌, ◌-◌, ◌<◌, ◌≤◌, min, eqb, List, [], ◌++◌, length, Ok, Err, sym, refl, ap, ◌∙◌, arith}
+-- Judging and copying a body, one data command at a time.
+use Rattle.std.proofs.Common.{◌≡◌, ℕ, ◌+◌, ◌-◌, ◌<◌, ◌≤◌, min, List, [], ◌++◌, length, Ok, Err, sym, refl, ap, ◌∙◌, arith}
 use Rattle.std.proofs.lemmas.List.{length-append}
-use Rattle.std.proofs.lemmas.Bool.{eq-eqb, ne_eqb, cond-true, cond-false}
 use Rattle.octets.specs.Octets.{written}
 use Rattle.octets.proofs.Writes.{written_none, written-written, length-written}
 use Rattle.tape.specs.declared.fault.TapeFault.{TapeFault}
-use Rattle.tape.specs.declared.fault.TapeFault.TheVariants.{Unknown}
-use Rattle.tape.specs.Heads.{primary_outline, message_outline, outline_by}
 use Rattle.tape.specs.Reading.{Place, part, data_operands}
 use Rattle.tape.proofs.Takes.{data_ok}
 use Rattle.tape.proofs.Gathers.{prefixed, gather_start, gather_more, gather_err, gather_end}
 
--- what a command octet tells
-pub by_primary : (command at : ℕ) (p : Place) → command ≡ 0x50 → primary_outline p ≡ outline_by command at p
-by_primary command at p e = sym (cond-true (eqb command 0x50) _ _ (eq-eqb command 0x50 e))
+-- a part of which some octets have been judged, and `left` are still to come
+pub record Skipping (count : ℕ) (p₀ : Place) (left : ℕ) (p : Place) : Type 0 where
+  pub judged : List ℕ
+  pub read : prefixed judged (part left p) ≡ part count p₀
 
-pub by_message : (command at : ℕ) (p : Place) → command ≡ 0x4D → message_outline p ≡ outline_by command at p
-by_message command at p e =
-    sym (cond-false (eqb command 0x50) _ _ (ne_eqb command 0x50 (λ z. omega arith)) ∙ cond-true (eqb command 0x4D) _ _ (eq-eqb command 0x4D e))
+pub skipping_start : (count : ℕ) (p₀ : Place) → Skipping count p₀ count p₀
+skipping_start count p₀ = record { judged = []; read = gather_start count p₀ [] refl }
 
-pub by_unknown : (command at : ℕ) (p : Place) → (command ≡ 0x50 → ⊥) → (command ≡ 0x4D → ⊥) → Err (Unknown at) ≡ outline_by command at p
-by_unknown command at p a b =
-    sym (cond-false (eqb command 0x50) _ _ (ne_eqb command 0x50 a) ∙ cond-false (eqb command 0x4D) _ _ (ne_eqb command 0x4D b))
+pub skipping_more : (left left₁ n count : ℕ) (p₀ p q : Place) (ys : List ℕ) → 0 < left → n ≡ min 32 left → left₁ ≡ left - n → Ok (ys, q) ≡ data_operands n p → Skipping count p₀ left p → Skipping count p₀ left₁ q
+skipping_more left left₁ n count p₀ p q ys h e l d s =
+    record { judged = s.judged ++ ys; read = gather_more left left₁ n p q s.judged ys (s.judged ++ ys) (part count p₀) h e l d refl s.read }
+
+pub skipping_err : (left n count : ℕ) (p₀ p : Place) (f : TapeFault) → 0 < left → n ≡ min 32 left → Err f ≡ data_operands n p → Skipping count p₀ left p → part count p₀ ≡ Err f
+skipping_err left n count p₀ p f h e d s = gather_err left n p s.judged f (part count p₀) h e d s.read
+
+pub skipping_end : (left count : ℕ) (p₀ p : Place) → left ≡ 0 → Skipping count p₀ left p → (xs : List ℕ) × (part count p₀ ≡ Ok (xs, p))
+skipping_end left count p₀ p h s = (s.judged, gather_end left p s.judged (part count p₀) h s.read)
 
 -- a part of which some octets have been copied to a memory, and `left` are still to come
 pub record Copying (count : ℕ) (p₀ : Place) (at : ℕ) (m₀ : List ℕ) (left : ℕ) (p : Place) (next : ℕ) (m : List ℕ) : Type 0 where

@@ -1,0 +1,85 @@
+-- What a head, a body and a whole warning give, by what their parts gave, and the other way round.
+use Rattle.std.proofs.Common.{◌≡◌, ℕ, List, ◌++◌, length, take, drop, Some, None, Ok, Err, Option, Result, unwrap_or, sym, refl, ap, ◌∙◌, arith}
+use Rattle.std.proofs.lemmas.List.{nil_from_length}
+use Rattle.std.specs.Option.{option_map}
+use Rattle.warning.specs.declared.Pair.{Pair}
+use Rattle.warning.specs.declared.Outline.{Outline}
+use Rattle.warning.specs.declared.Outline.TheVariants.{Primary, Message}
+use Rattle.warning.specs.Contents.{octets, part_octets}
+use Rattle.warning.specs.Notice.{Notice, primary, message, outline}
+use Rattle.tape.specs.declared.fault.TapeFault.{TapeFault}
+use Rattle.tape.specs.Heads.{head, body}
+use Rattle.tape.specs.Reading.{Place, Read, operand, all_zero, part, entry}
+use Rattle.tape.proofs.Takes.{then_elim, then_is, ok_parts}
+use Rattle.tape.proofs.Splits.{then_err}
+use Rattle.tape.proofs.Entries.{part_ok}
+use Rattle.tape.proofs.Outlines.{head_right}
+use Rattle.tape.proofs.Bodies.{entry_split, body_outline}
+
+-- what is read is not refused
+pub clash : {X : Type 0} {C : Type 0} (x : X) (f : TapeFault) → ◌≡◌ {A = Result X TapeFault} (Ok x) (Err f) → C
+clash x f e = let z : ◌≡◌ {A = ℕ} 0 1 = cc in absurd (omega arith)
+
+pub head_refused : (p : Place) (f : TapeFault) → head p ≡ Err f → entry p ≡ Err f
+head_refused p f e = entry_split p ∙ then_err (head p) body f e
+
+pub head_read : (p r : Place) (o : Outline) → head p ≡ Ok (o, r) → entry p ≡ body o r
+head_read p r o e = entry_split p ∙ then_is (head p) body o r e
+
+-- a warning that is read has its outline in its head
+pub head_of : (p : Place) (w : Notice) (q : Place) → entry p ≡ Ok (w, q) → (r : Place) × (head p ≡ Ok (outline w, r))
+head_of p w q e =
+    then_elim (head p) body w q (sym (entry_split p) ∙ e) (λ o r e₁ k.
+    let same = body_outline o r w q (head_right p o r e₁) k in
+    (r, e₁ ∙ ap (λ z. Ok (z, r)) (sym same)))
+
+-- the operand of security information
+abbrev pub security_read : Option ℕ → Place → Read (List ℕ)
+security_read security p = operand 50 (λ xs. all_zero (drop (unwrap_or security 0) xs)) p
+
+module _ (pair : Pair) (t : ℕ) (security : Option ℕ) (p : Place) where
+  pub primary_refused : (f : TapeFault) → security_read security p ≡ Err f → body (Primary pair t security) p ≡ Err f
+  unfolding body
+  primary_refused f e = then_err (security_read security p) _ f e
+
+  pub primary_read : (xs : List ℕ) (q : Place) → security_read security p ≡ Ok (xs, q) → body (Primary pair t security) p ≡ Ok (primary pair t (option_map (λ n. take n xs) security), q)
+  unfolding body
+  primary_read xs q e = then_is (security_read security p) _ xs q e
+
+module _ (block : ℕ) (pair : Pair) (coding m : ℕ) (area : Option ℕ) (p : Place) where
+  pub message_refused : (f : TapeFault) → part m p ≡ Err f → body (Message block pair coding m area) p ≡ Err f
+  unfolding body
+  message_refused f e = then_err (part m p) _ f e
+
+  pub area_refused : (xs : List ℕ) (r : Place) (f : TapeFault) → part m p ≡ Ok (xs, r) → part (unwrap_or area 0) r ≡ Err f → body (Message block pair coding m area) p ≡ Err f
+  unfolding body
+  area_refused xs r f e k = then_is (part m p) _ xs r e ∙ then_err (part (unwrap_or area 0) r) _ f k
+
+  pub message_read : (xs ys : List ℕ) (r q : Place) → part m p ≡ Ok (xs, r) → part (unwrap_or area 0) r ≡ Ok (ys, q) → body (Message block pair coding m area) p ≡ Ok (message block pair coding xs (option_map (λ n. ys) area), q)
+  unfolding body
+  message_read xs ys r q e k = then_is (part m p) _ xs r e ∙ then_is (part (unwrap_or area 0) r) _ ys q k
+
+-- the octets of a primary, and of a message
+security_octets_taken : (security : Option ℕ) (xs : List ℕ) → part_octets (option_map (λ n. take n xs) security) ≡ take (unwrap_or security 0) xs
+security_octets_taken None xs = refl
+security_octets_taken (Some n) xs = refl
+
+area_octets : (area : Option ℕ) (ys : List ℕ) → length ys ≡ unwrap_or area 0 → part_octets (option_map (λ n. ys) area) ≡ ys
+area_octets None ys l = sym (nil_from_length ys l)
+area_octets (Some n) ys l = refl
+
+pub primary_of : (pair : Pair) (t : ℕ) (security : Option ℕ) (p : Place) (w : Notice) (q : Place) → body (Primary pair t security) p ≡ Ok (w, q) → (xs : List ℕ) × (security_read security p ≡ Ok (xs, q)) × (take (unwrap_or security 0) xs ≡ octets w)
+unfolding body
+primary_of pair t security p w q e =
+    then_elim (security_read security p) _ w q e (λ xs r e₁ k.
+    let is = ok_parts (primary pair t (option_map (λ n. take n xs) security)) w r q k in
+    (xs, e₁ ∙ ap (λ z. Ok (xs, z)) is.1, sym (security_octets_taken security xs) ∙ ap octets is.0))
+
+pub message_of : (block : ℕ) (pair : Pair) (coding m : ℕ) (area : Option ℕ) (p : Place) (w : Notice) (q : Place) → body (Message block pair coding m area) p ≡ Ok (w, q) → (xs : List ℕ) × (ys : List ℕ) × (r : Place) × (part m p ≡ Ok (xs, r)) × (part (unwrap_or area 0) r ≡ Ok (ys, q)) × (xs ++ ys ≡ octets w)
+unfolding body
+message_of block pair coding m area p w q e =
+    then_elim (part m p) _ w q e (λ xs r e₁ k₁.
+    then_elim (part (unwrap_or area 0) r) _ w q k₁ (λ ys s e₂ k₂.
+    let is = ok_parts (message block pair coding xs (option_map (λ n. ys) area)) w s q k₂ in
+    let same = area_octets area ys (part_ok (unwrap_or area 0) r ys s e₂).0 in
+    (xs, ys, r, e₁, e₂ ∙ ap (λ z. Ok (ys, z)) is.1, ap (λ z. xs ++ z) (sym same) ∙ ap octets is.0)))
