@@ -161,7 +161,7 @@ fn copy_part<'a>(
 // Copies security information of a length, which has been judged.
 fn copy_security(input: Cursor<'_>, count: usize, memory: &mut [u8]) -> Result<(), TapeFault>
     requires within { Within input }
-    requires few { count ≤ 50 }
+    requires few { count ≤ security_octets }
     requires fit { count ≤ length memory.old }
     ensures { (xs : List ℕ) (q : Place) → operand security_octets (λ ys. all_zero (drop count ys)) (stands input.entry) ≡ Ok (xs, q) → (result ≡ Ok tt) × (memory.new ≡ written 0 (take count xs) memory.old) }
 {

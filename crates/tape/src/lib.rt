@@ -1,7 +1,7 @@
 // Warnings on tape: writing one, reading a tape, and both round trips.
 #![tactic(auto)]
 
-pub mod cursor;
+mod cursor;
 pub mod fault;
 pub mod heads;
 pub mod numbers;

@@ -20,7 +20,7 @@ use Rattle.tape.specs.Format.{encode, encode_all, cost, part_cost}
 use Rattle.tape.specs.Promises.{all_warnings}
 use Rattle.tape.specs.Heads.{head}
 use Rattle.tape.specs.Reading.{Place, place, entry, read_tape}
-use Rattle.tape.specs.Writing.{cost_by as cost-on-tape, write_by, write_outcome, costed}
+use Rattle.tape.specs.Writing.{cost_by as cost_on_tape, write_by, write_outcome, costed}
 use Rattle.tape.proofs.Costs.{length-encode}
 use Rattle.tape.proofs.Entries.{entry_at}
 use Rattle.tape.proofs.Readings.{head_of}
@@ -29,7 +29,9 @@ use Rattle.outlet.specs.declared.OutletFault.{OutletFault}
 use Rattle.outlet.specs.declared.OutletFault.TheVariants.{Full}
 use Rattle.outlet.specs.Meaning.{Lawful, Warnings, costs, units_free}
 use Rattle.outlet.specs.Outcomes.{give_by, give_outcome, cost_by, cost_outcome, first_of, without_first, first_copied}
+use Rattle.tape_outlet.specs.declared.TapeOutlet.{TapeOutlet}
 use Rattle.tape_outlet.specs.Numbers.{tape_octets, tape_room}
+use Rattle.tape_outlet.specs.Holding.{holding}
 use Rattle.tape_outlet.specs.Written.{or_none, read_as, as_outlet}
 
 -- octets that are the written form of warnings
@@ -183,7 +185,7 @@ by_ok : (b : Bool) (n at end : ℕ) (f : WriteFault) → Ok end ≡ cond b (Err 
 by_ok true n at end f e = let z : ◌≡◌ {A = ℕ} 0 1 = cc in absurd (omega arith)
 by_ok false n at end f e = (refl, cc)
 
-wrote : (j : Result (Unit {0}) WarningFault) (n free at end : ℕ) → Ok end ≡ write_by (cost-on-tape j n) free at → (j ≡ Ok tt) × (end ≡ at + n) × (Ok tt ≡ give_by j n free) × (n ≤ free)
+wrote : (j : Result (Unit {0}) WarningFault) (n free at end : ℕ) → Ok end ≡ write_by (cost_on_tape j n) free at → (j ≡ Ok tt) × (end ≡ at + n) × (Ok tt ≡ give_by j n free) × (n ≤ free)
 wrote (Ok tt) n free at end e =
     let p = by_ok (nat_lt free n) n at end (NoRoom n free) e in
     (refl, p.1, ap (λ b. cond b (Err (Full n free)) (Ok tt)) (sym p.0), ltb-false free n p.0)
@@ -193,7 +195,7 @@ refused_by : (b : Bool) (n free at : ℕ) (f : WriteFault) → Err f ≡ cond b 
 refused_by true n free at f e = let z : f ≡ NoRoom n free = cc in ap (λ y. Err (as_outlet y)) z
 refused_by false n free at f e = let z : ◌≡◌ {A = ℕ} 0 1 = cc in absurd (omega arith)
 
-refused : (j : Result (Unit {0}) WarningFault) (n free at : ℕ) (f : WriteFault) → Err f ≡ write_by (cost-on-tape j n) free at → Err (as_outlet f) ≡ give_by j n free
+refused : (j : Result (Unit {0}) WarningFault) (n free at : ℕ) (f : WriteFault) → Err f ≡ write_by (cost_on_tape j n) free at → Err (as_outlet f) ≡ give_by j n free
 refused (Ok tt) n free at f e = refused_by (nat_lt free n) n free at f e
 refused (Err g) n free at f e = let z : f ≡ NotWritten g = cc in ap (λ y. Err (as_outlet y)) z
 
@@ -207,7 +209,7 @@ module _ (ws : List Notice) (o : Outline) (free at : ℕ) (is : free ≡ units_f
   give_refused f e = refused (judged o) (cost o) free at f e ∙ ap (give_by (judged o) (cost o)) is
 
 -- the question for a cost
-cost-same : (j : Result (Unit {0}) WarningFault) (n : ℕ) → cost-on-tape j n ≡ cost_by j n
+cost-same : (j : Result (Unit {0}) WarningFault) (n : ℕ) → cost_on_tape j n ≡ cost_by j n
 cost-same (Ok u) n = refl
 cost-same (Err f) n = refl
 
@@ -217,6 +219,10 @@ cost_told o = cost-same (judged o) (cost o)
 -- the octets in use are the units held
 pub used_costs : (m : List ℕ) (used : ℕ) (ws : List Notice) → length m ≡ tape_octets → used ≤ tape_octets → Kept (take used m) ws → costs tape_room ws ≡ used
 used_costs m used ws all within k = kept-costs (take used m) ws k ∙ length-take-le used m (omega arith)
+
+-- what the warnings held cost never exceeds the total
+pub costs_within : (t : TapeOutlet) → costs tape_room (holding t) ≤ tape_room.total
+costs_within t = omega (arith, used_costs t.octets t.used (holding t) t.all t.within (kept (take t.used t.octets) t.right t.written), t.within)
 
 -- every warning has room in an empty outlet
 fits : (m a : ℕ) → m + a ≤ 16384 → 12 + part_cost m + part_cost a ≤ tape_octets

@@ -8,9 +8,7 @@ ghost use Rattle.tape_outlet.specs.Numbers.{tape_room};
 ghost use Rattle.tape_outlet.specs.Written.{as_outlet};
 ghost use Rattle.tape_outlet.specs.Holding.{holding};
 ghost use Rattle.tape_outlet.specs.Kept;
-ghost use Rattle.std.proofs.Common.{arith};
-ghost use Rattle.std.proofs.Math.ListN;
-ghost use Rattle.tape_outlet.specs.Kept.{kept, used_costs, each_right};
+ghost use Rattle.tape_outlet.specs.Kept.{costs_within, each_right};
 
 use crate::TapeOutlet;
 use crate::numbers::*;
@@ -98,9 +96,7 @@ impl Outlet for TapeOutlet {
 
     ghost lawful = { λ s. Kept.lawful };
 
-    ghost within = { λ s.
-        let k = kept (ListN.take s.used s.octets) s.right s.written in
-        omega (arith, used_costs s.octets s.used (holding s) s.all s.within k, s.within) };
+    ghost within = { costs_within };
 
     ghost right = { λ s. each_right (holding s) s.right };
 
