@@ -7,6 +7,7 @@ mod tests {
     use std::process::Abort;
     use std::test::Fail;
     use tape::fault::*;
+    use tape::heads::{copy_entry, read_entry, read_head};
     use tape::tapes::read;
     use tape::write::{cost, write};
     use tape::write_all::{append, write_all};
@@ -250,6 +251,53 @@ mod tests {
         assert!(rt; write(&mut memory, 14, w).is_ok());
         assert!(rt; memory[13] == 7 && memory[14] == 0x4D);
         assert!(rt; write(&mut memory, 61, w).is_err());
+        Ok(())
+    }
+
+    // A message of 46 octets on tape, and one of 114 after it.
+    fn two_messages(heap: Global) -> Result<Vec<u8>, Fail> {
+        let mut tape = tape_of(heap, 12, 5, None)?;
+        let second = tape_of(heap, 8, 40, Some(5))?;
+        tape.extend_from_slice(second.as_slice())?;
+        Ok(tape)
+    }
+
+    #[test]
+    fn one_from_an_offset(rt: HostRuntime) -> Result<(), Fail> {
+        let heap = rt.alloc();
+        let tape = two_messages(heap)?;
+        let second = outline(8, 40, Some(5));
+        assert_eq!(rt; read_head(tape.as_slice(), 46), Ok((second, 58)));
+        let Ok((warning, after)) = read_entry(heap, tape.as_slice(), 46) else {
+            return Err(Fail::new("refused"));
+        };
+        assert_eq!(rt; warning.as_warning().outline(), second);
+        assert_eq!(rt; after, 160);
+        let mut memory = [7u8; 16_384];
+        assert_eq!(rt;
+            copy_entry(tape.as_slice(), 46, &mut memory),
+            Ok((second, 160))
+        );
+        assert!(rt; memory[0] == 0 && memory[39] == 39);
+        assert!(rt; memory[40] == 0 && memory[44] == 4 && memory[45] == 7);
+        Ok(())
+    }
+
+    #[test]
+    fn none_from_an_offset(rt: HostRuntime) -> Result<(), Fail> {
+        let heap = rt.alloc();
+        let tape = two_messages(heap)?;
+        let past = TapeFault::Ended { offset: 1000 };
+        assert_eq!(rt; read_head(tape.as_slice(), 1000), Err(past));
+        assert_eq!(rt;
+            read_head(tape.as_slice(), 1),
+            Err(TapeFault::Unknown { offset: 1 })
+        );
+        let mut memory = [7u8; 16_384];
+        assert_eq!(rt; tape.len(), 160);
+        let cut = TapeFault::Ended { offset: 159 };
+        assert_eq!(rt; copy_entry(&tape[0..159], 46, &mut memory), Err(cut));
+        assert!(rt; memory[0] == 7 && memory[39] == 7);
         Ok(())
     }
 }
