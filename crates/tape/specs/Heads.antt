@@ -16,7 +16,7 @@ use Rattle.tape.specs.declared.fault.ReadError.{ReadError}
 use Rattle.tape.specs.declared.fault.ReadError.TheVariants.{Fault, Memory}
 use Rattle.tape.specs.Numbers.{primary_command, message_command}
 use Rattle.tape.specs.Cursors.{stands}
-use Rattle.tape.specs.Reading.{Place, Read, then, operand, octet, number, number_to, pair_operands, all_zero, present, part, most_flag, most_area}
+use Rattle.tape.specs.Reading.{Place, Read, then, operand, octet, number, number_to, pair_operands, all_zero, present, part, most_flag, most_area, entry}
 
 -- the operands of a primary, up to its security information
 unfoldable pub primary_outline : Place → Read Outline
@@ -61,6 +61,10 @@ body (Message block pair coding count area) p =
     then (part count p) (λ xs p.
     then (part (unwrap_or area 0) p) (λ ys p.
     Ok (message block pair coding xs (option_map (λ n. ys) area), p)))
+
+-- a warning is its head and then its body, at every place
+abbrev pub HeadThenBody : Type 0
+HeadThenBody = (p : Place) → entry p ≡ then (head p) body
 
 -- what is answered of a value and the place after it: what it means, and the offset
 abbrev pub answered : {X Y : Type 0} → (X → Y) → Read X → Result (Y × ℕ) TapeFault

@@ -8,7 +8,7 @@ ghost use Rattle.warning.specs.Numbers.{most_octets, security_octets};
 ghost use Rattle.warning.specs.Owned.{owned};
 ghost use Rattle.warning.specs.Rules.{is_warning};
 ghost use Rattle.tape.specs.Cursors.{stands, gave, Within};
-ghost use Rattle.tape.specs.Heads.{primary_outline, lengths_outline, message_outline, head, body, answered, AnsweredAs, copied, Skipped, PartCopied};
+ghost use Rattle.tape.specs.Heads.{primary_outline, lengths_outline, message_outline, head, body, HeadThenBody, answered, AnsweredAs, copied, Skipped, PartCopied};
 ghost use Rattle.tape.specs.Reading.{Place, place, operand, all_zero, present, part, entry};
 
 use crate::cursor::Cursor;
@@ -217,7 +217,8 @@ fn cursor_at(tape: &[u8], at: usize) -> Cursor<'_>
 // Reads the head of the warning at an offset: its outline, and the offset
 // after the head.
 pub fn read_head(tape: &[u8], at: usize) -> Result<(Outline, usize), TapeFault>
-    ensures { result ≡ answered (λ o. o) (head (place at (drop at tape.now))) }
+    ensures value { result ≡ answered (λ o. o) (head (place at (drop at tape.now))) }
+    ensures parts { HeadThenBody }
 {
     let (outline, rest) = head(cursor_at(tape, at))?;
     Ok((outline, rest.at))

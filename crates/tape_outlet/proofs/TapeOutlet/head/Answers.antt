@@ -14,7 +14,7 @@ unreachable-requires c =
     let some : 0 < length (take s.used s.octets) = omega (arith, length-take-le s.used s.octets (omega (arith, s.all, s.within))) in
     let r = first_read t (holding s) (kept t s.right s.written) some in
     let there = ap (λ z. head (place 0 z)) (c.tape.ensures.written ∙ s.written) ∙ r.start in
-    clash _ _ (sym (ap (answered (λ o. o)) there) ∙ sym c.in-Err.ensures)
+    clash _ _ (sym (ap (answered (λ o. o)) there) ∙ sym c.in-Err.ensures.value)
 
 pub returns : goal.returns
 returns c =
@@ -23,4 +23,4 @@ returns c =
     let some : 0 < length (take s.used s.octets) = omega (arith, length-take-le s.used s.octets (omega (arith, s.all, s.within))) in
     let r = first_read t (holding s) (kept t s.right s.written) some in
     let there = ap (λ z. head (place 0 z)) (c.tape.ensures.written ∙ s.written) ∙ r.start in
-    ap Some (told_same c.in-Ok.outline _ _ _ (c.in-Ok.ensures ∙ ap (answered (λ o. o)) there)) ∙ r.first
+    ap Some (told_same c.in-Ok.outline _ _ _ (c.in-Ok.ensures.value ∙ ap (answered (λ o. o)) there)) ∙ r.first
