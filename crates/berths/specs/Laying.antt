@@ -1,5 +1,5 @@
 -- What a write of one berth does to what the berths hold.
-use Rattle.std.specs.Prelude.{◌≡◌, ℕ, ◌+◌, ◌-◌, ◌<◌, ◌≤◌, true, false, cond, ◌&&◌, ltb, ◌≢◌, List, length, replicate, is_some as option_is_some, Some, None, Option, nat_eq, nat_lt, slice_set, refl}
+use Rattle.std.specs.Prelude.{◌≡◌, ℕ, ◌+◌, ◌-◌, ◌<◌, ◌≤◌, true, false, cond, ◌&&◌, ltb, ◌≢◌, List, length, replicate, is_some, Some, None, Option, nat_eq, nat_lt, slice_set, refl}
 use Rattle.std.proofs.Common.{sym, ◌∙◌, ⊎_elim, arith}
 use Rattle.std.proofs.Math.Path.{ap, fun_ext}
 use Rattle.std.proofs.lemmas.List.{get_or-set_same, get_or-set_other, get_or-replicate, get_or_past, length-set, length-replicate}
@@ -95,10 +95,10 @@ lies_none b e = rw e
 pub lies_some : (b : Berth) (l : Lengths) → b.lengths ≡ Some l → lies b ≡ Some (standing l b.octets)
 lies_some b l e = rw e
 
-pub is_some : (b : Berth) → option_is_some b.lengths ≡ option_is_some (lies b)
-is_some b = of b.lengths
+pub is_some-lies : (b : Berth) → is_some b.lengths ≡ is_some (lies b)
+is_some-lies b = of b.lengths
   where
-    of : (o : Option Lengths) → option_is_some o ≡ option_is_some (lies (record { lengths = o; octets = b.octets }))
+    of : (o : Option Lengths) → is_some o ≡ is_some (lies (record { lengths = o; octets = b.octets }))
     of None = refl
     of (Some l) = refl
 
@@ -171,7 +171,7 @@ pub units_three : (h : Held) → units berths_shape h ≡ slot_units one h 0 + s
 units_three h = three (slot_units one h)
 
 -- where nothing is held at a place, a unit is free
-pub one_free : (h : Held) (slot n : ℕ) (seg : Segment) → slot < slot_count → n < number_count → option_is_some (h slot n) ≡ false → 1 ≤ berth_count - units berths_shape h
+pub one_free : (h : Held) (slot n : ℕ) (seg : Segment) → slot < slot_count → n < number_count → is_some (h slot n) ≡ false → 1 ≤ berth_count - units berths_shape h
 one_free h slot n seg low few e =
     let none : paid one (h slot n) ≡ 0 = ap (paid one) (none_if (h slot n) e) in
     let t = units-replaced berths_shape h slot n (Some seg) low few in
@@ -182,9 +182,9 @@ pub lawful : Lawful berths_shape
 lawful = record { fewest = omega arith; most = omega arith; some = λ n _. omega arith; rises = λ m n _ _. omega arith; roomy = omega arith }
 
 -- a berth that is taken counts one unit
-paid_is : (o : Option Segment) → option_is_some o ≡ true → paid one o ≡ 1
+paid_is : (o : Option Segment) → is_some o ≡ true → paid one o ≡ 1
 paid_is None e = absurd (false≢true e)
 paid_is (Some seg) e = refl
 
-pub paid_some : (bs : List Berth) (slot n i : ℕ) → There slot_count slot n i → option_is_some (berth bs i).lengths ≡ true → paid one (held_in bs slot n) ≡ 1
-paid_some bs slot n i t e = paid_is (held_in bs slot n) (ap option_is_some (held_at bs slot n i t) ∙ sym (is_some (berth bs i)) ∙ e)
+pub paid_some : (bs : List Berth) (slot n i : ℕ) → There slot_count slot n i → is_some (berth bs i).lengths ≡ true → paid one (held_in bs slot n) ≡ 1
+paid_some bs slot n i t e = paid_is (held_in bs slot n) (ap is_some (held_at bs slot n i t) ∙ sym (is_some-lies (berth bs i)) ∙ e)

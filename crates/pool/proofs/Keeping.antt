@@ -1,5 +1,5 @@
 -- What a pool's fields fulfil after a segment came or went.
-use Rattle.std.proofs.Common.{◌≡◌, ℕ, ◌+◌, ◌-◌, ◌<◌, ◌≤◌, List, length, get_or, take, set, is_some as option_is_some, Some, None, Option, sym, refl, ap, ◌∙◌, subst, arith}
+use Rattle.std.proofs.Common.{◌≡◌, ℕ, ◌+◌, ◌-◌, ◌<◌, ◌≤◌, List, length, get_or, take, set, is_some, Some, None, Option, sym, refl, ap, ◌∙◌, subst, arith}
 use Rattle.std.proofs.lemmas.List.{length-set, take_at}
 use Rattle.store.specs.declared.Lengths.{Lengths}
 use Rattle.store.specs.Meaning.{Segment, Counted, count, count_of, lengths_of, octets, paid, replaced, spread, units}
@@ -15,7 +15,7 @@ use Rattle.pool.specs.Numbers.{slot_count, place_count, block_count, blocks_for,
 use Rattle.pool.specs.Chains.{walk, place, held_in, head, size, Long, Inside, Apart, Fitting, Laid, more, less}
 use Rattle.pool.specs.Holding.{holding}
 use Rattle.pool.specs.Links.{apart_from}
-use Rattle.pool.specs.Tables.{sound, held_at, is_some, fitting_set, paid_at}
+use Rattle.pool.specs.Tables.{sound, held_at, is_some-laid_at, fitting_set, paid_at}
 use Rattle.pool.proofs.Moves.{filled_inside, filled_apart, filled_held, released_inside, released_apart, released_held}
 
 -- the facts of a pool, one after the other
@@ -38,7 +38,7 @@ joined seg m m' n h e c =
 
 pub vacant_at : (p : Pool) (slot n i : ℕ) → There slot_count slot n i → holding p slot n ≡ None → place p.places i ≡ None
 vacant_at p slot n i t e =
-    none_if (place p.places i) (is_some p.octets p.next (place p.places i) ∙ ap option_is_some (sym (held_at p.octets p.next p.places slot n i t) ∙ e))
+    none_if (place p.places i) (is_some-laid_at p.octets p.next (place p.places i) ∙ ap is_some (sym (held_at p.octets p.next p.places slot n i t) ∙ e))
 
 -- what a slot has in use is not above what all have
 pub slot_used : (p : Pool) (slot : ℕ) → slot < slot_count → get_or p.used.of slot 0 ≤ p.used.all

@@ -1,5 +1,5 @@
 -- Places and their chains, one place at a time.
-use Rattle.std.specs.Prelude.{◌≡◌, ℕ, ◌-◌, ◌<◌, ◌≤◌, true, false, ◌&&◌, ltb, ◌≢◌, List, length, is_some as option_is_some, Some, None, Option, nat_eq, nat_lt, slice_set, refl}
+use Rattle.std.specs.Prelude.{◌≡◌, ℕ, ◌-◌, ◌<◌, ◌≤◌, true, false, ◌&&◌, ltb, ◌≢◌, List, length, is_some, Some, None, Option, nat_eq, nat_lt, slice_set, refl}
 use Rattle.std.proofs.Common.{sym, ◌∙◌, ap, ⊎_elim, arith}
 use Rattle.std.proofs.Math.Path.{fun_ext}
 use Rattle.std.proofs.lemmas.List.{get_or-set_same, get_or-set_other}
@@ -167,9 +167,9 @@ all_placed ps octets next free used s slot n =
     (cases_lt slot slot_count)
 
 -- whether a place is taken
-pub is_some : (octets next : List ℕ) (o : Option Place) → option_is_some o ≡ option_is_some (laid_at octets next o)
-is_some octets next None = refl
-is_some octets next (Some q) = refl
+pub is_some-laid_at : (octets next : List ℕ) (o : Option Place) → is_some o ≡ is_some (laid_at octets next o)
+is_some-laid_at octets next None = refl
+is_some-laid_at octets next (Some q) = refl
 
 pub lawful : Lawful pool_shape
 lawful = record { fewest = omega arith; most = omega arith; some = λ n _. omega arith; rises = λ m n le _. omega arith; roomy = omega arith }

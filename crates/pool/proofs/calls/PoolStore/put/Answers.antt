@@ -1,4 +1,4 @@
-use Rattle.std.proofs.Common.{◌≡◌, ◌-◌, ltb, is_some as option_is_some, Err, sym, refl, ap, ◌∙◌, arith}
+use Rattle.std.proofs.Common.{◌≡◌, ◌-◌, ltb, is_some, Err, sym, refl, ap, ◌∙◌, arith}
 use Rattle.std.proofs.lemmas.Result.{err_from_is_err_and}
 use Rattle.std.proofs.lemmas.Bool.{ltb-true, ltb-false}
 use Rattle.store.specs.declared.StoreFault.TheVariants.{Occupied, NoUnits}
@@ -8,7 +8,7 @@ use Rattle.store.proofs.Places.{there, put_occupied, put_full, put_done, refused
 use Rattle.pool.specs.Numbers.{slot_count, block_count, blocks_for, pool_shape}
 use Rattle.pool.specs.Chains.{place}
 use Rattle.pool.specs.Holding.{holding}
-use Rattle.pool.specs.Tables.{held_at, is_some}
+use Rattle.pool.specs.Tables.{held_at, is_some-laid_at}
 use Rattle.pool.proofs.calls.PoolStore.put.Goals as goal
 
 pub returns-in_err-check_vacant : goal.returns-in_err-check_vacant
@@ -16,10 +16,10 @@ returns-in_err-check_vacant c =
     let p = c.args.self.now in
     let i = c.in_ok-i.i in
     let t = there slot_count c.args.slot c.args.number i c.in_ok-i.ensures in
-    let e = refused_if (option_is_some (place p.places i)) Occupied c.in_err-check_vacant.field-0.0 c.in_err-check_vacant.ensures in
+    let e = refused_if (is_some (place p.places i)) Occupied c.in_err-check_vacant.field-0.0 c.in_err-check_vacant.ensures in
     let y = err_from_is_err_and c.from_residual-in_err-check_vacant.result c.from_residual-in_err-check_vacant.ensures.1 in
     let r : c.from_residual-in_err-check_vacant.result ≡ Err Occupied = y.1 ∙ ap Err (y.2 ∙ e.1) in
-    let held = ap option_is_some (held_at p.octets p.next p.places c.args.slot c.args.number i t) ∙ sym (is_some p.octets p.next (place p.places i)) ∙ e.0 in
+    let held = ap is_some (held_at p.octets p.next p.places c.args.slot c.args.number i t) ∙ sym (is_some-laid_at p.octets p.next (place p.places i)) ∙ e.0 in
     record {
       value = r ∙ put_occupied pool_shape (holding p) c.args.slot c.args.number i (segment c.args.message.now c.args.area) t (omega (arith, c.octet_count-count.ensures)) held;
       after = unchanged c.from_residual-in_err-check_vacant.result Occupied _ _ r;
@@ -32,7 +32,7 @@ returns-in_err-check_room c =
     let i = c.in_ok-i.i in
     let seg = segment c.args.message.now c.args.area in
     let t = there slot_count c.args.slot c.args.number i c.in_ok-i.ensures in
-    let none = ap option_is_some (held_at p.octets p.next p.places c.args.slot c.args.number i t) ∙ sym (is_some p.octets p.next (place p.places i)) ∙ passed_if (option_is_some (place p.places i)) Occupied _ c.in_ok-check_vacant.ensures in
+    let none = ap is_some (held_at p.octets p.next p.places c.args.slot c.args.number i t) ∙ sym (is_some-laid_at p.octets p.next (place p.places i)) ∙ passed_if (is_some (place p.places i)) Occupied _ c.in_ok-check_vacant.ensures in
     let k : c.blocks_for.result ≡ blocks_for (count seg) = c.blocks_for.ensures ∙ ap (λ z. blocks_for z) c.octet_count-count.ensures in
     let free : block_count - p.used.all ≡ units_free pool_shape (holding p) = ap (λ z. block_count - z) p.all in
     let fault = NoUnits c.blocks_for.result (block_count - p.used.all) in
@@ -51,7 +51,7 @@ fill-requires c =
     let p = c.args.self.now in
     let i = c.in_ok-i.i in
     let t = there slot_count c.args.slot c.args.number i c.in_ok-i.ensures in
-    let none = ap option_is_some (held_at p.octets p.next p.places c.args.slot c.args.number i t) ∙ sym (is_some p.octets p.next (place p.places i)) ∙ passed_if (option_is_some (place p.places i)) Occupied _ c.in_ok-check_vacant.ensures in
+    let none = ap is_some (held_at p.octets p.next p.places c.args.slot c.args.number i t) ∙ sym (is_some-laid_at p.octets p.next (place p.places i)) ∙ passed_if (is_some (place p.places i)) Occupied _ c.in_ok-check_vacant.ensures in
     let k = c.blocks_for.ensures ∙ ap (λ z. blocks_for z) c.octet_count-count.ensures in
     record {
       low = t.low;
@@ -67,7 +67,7 @@ returns c =
     let i = c.in_ok-i.i in
     let seg = segment c.args.message.now c.args.area in
     let t = there slot_count c.args.slot c.args.number i c.in_ok-i.ensures in
-    let none = ap option_is_some (held_at p.octets p.next p.places c.args.slot c.args.number i t) ∙ sym (is_some p.octets p.next (place p.places i)) ∙ passed_if (option_is_some (place p.places i)) Occupied _ c.in_ok-check_vacant.ensures in
+    let none = ap is_some (held_at p.octets p.next p.places c.args.slot c.args.number i t) ∙ sym (is_some-laid_at p.octets p.next (place p.places i)) ∙ passed_if (is_some (place p.places i)) Occupied _ c.in_ok-check_vacant.ensures in
     let k : c.blocks_for.result ≡ blocks_for (count seg) = c.blocks_for.ensures ∙ ap (λ z. blocks_for z) c.octet_count-count.ensures in
     let free : block_count - p.used.all ≡ units_free pool_shape (holding p) = ap (λ z. block_count - z) p.all in
     record {
