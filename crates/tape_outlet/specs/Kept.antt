@@ -20,7 +20,7 @@ use Rattle.tape.specs.Format.{encode, encode_all, cost, part_cost}
 use Rattle.tape.specs.Promises.{all_warnings}
 use Rattle.tape.specs.Heads.{head}
 use Rattle.tape.specs.Reading.{Place, place, entry, read_tape}
-use Rattle.tape.specs.Writing.{cost_by as cost_on_tape, write_by, write_outcome, costed}
+use Rattle.tape.specs.Writing.{cost_by as cost_on_tape, write_by, write_outcome}
 use Rattle.tape.proofs.Costs.{length-encode}
 use Rattle.tape.proofs.Entries.{entry_at}
 use Rattle.tape.proofs.Readings.{head_of}
@@ -28,7 +28,7 @@ use Rattle.tape.proofs.Whole.{reads_back}
 use Rattle.outlet.specs.declared.OutletFault.{OutletFault}
 use Rattle.outlet.specs.declared.OutletFault.TheVariants.{Full}
 use Rattle.outlet.specs.Meaning.{Lawful, Warnings, costs, units_free}
-use Rattle.outlet.specs.Outcomes.{give_by, give_outcome, cost_by, cost_outcome, first_of, without_first, first_copied}
+use Rattle.outlet.specs.Outcomes.{give_by, give_outcome, first_of, without_first, first_copied}
 use Rattle.tape_outlet.specs.declared.TapeOutlet.{TapeOutlet}
 use Rattle.tape_outlet.specs.Numbers.{tape_octets, tape_room}
 use Rattle.tape_outlet.specs.Holding.{holding}
@@ -207,14 +207,6 @@ module _ (ws : List Notice) (o : Outline) (free at : ℕ) (is : free ≡ units_f
 
   pub give_refused : (f : WriteFault) → Err f ≡ write_outcome o free at → Err (as_outlet f) ≡ give_outcome tape_room ws o
   give_refused f e = refused (judged o) (cost o) free at f e ∙ ap (give_by (judged o) (cost o)) is
-
--- the question for a cost
-cost-same : (j : Result (Unit {0}) WarningFault) (n : ℕ) → cost_on_tape j n ≡ cost_by j n
-cost-same (Ok u) n = refl
-cost-same (Err f) n = refl
-
-pub cost_told : (o : Outline) → costed o ≡ cost_outcome tape_room o
-cost_told o = cost-same (judged o) (cost o)
 
 -- the octets in use are the units held
 pub used_costs : (m : List ℕ) (used : ℕ) (ws : List Notice) → length m ≡ tape_octets → used ≤ tape_octets → Kept (take used m) ws → costs tape_room ws ≡ used
