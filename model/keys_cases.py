@@ -6,8 +6,7 @@ CALLS gets one call to a line, ANSWERS the line of the answer to each call.
 README.md has the format of both. The output is the same on every run.
 """
 
-import sys
-
+from calls import Calls, write_files
 from keys import Lists, Network, Pair, answer
 from tape_cases import Source
 
@@ -29,21 +28,13 @@ PAIRS = [Pair(4352, 1), Pair(4352, 2), Pair(4353, 1), Pair(4353, 2), Pair(1, 435
          Pair(4352, 0), Pair(2, 1)]
 
 
-class Run:
+class Run(Calls):
     """Makes calls on the model and keeps their lines and answers. The clock
     of the calls never falls."""
 
     def __init__(self, source):
-        self.source = source
-        self.lists = Lists()
+        super().__init__(source, Lists(), answer)
         self.clock = 0
-        self.calls = []
-        self.answers = []
-
-    def ask(self, *fields):
-        line = " ".join(str(field) for field in fields)
-        self.calls.append(line)
-        self.answers.append(answer(self.lists, line))
 
     def at(self, clock):
         """Sets the clock."""
@@ -289,7 +280,7 @@ def pass_time(run, most):
     if kind < 6:
         run.after(source.below(most + 1))
         return
-    entries = run.lists.remembered.entries + run.lists.open.entries
+    entries = run.model.remembered.entries + run.model.open.entries
     if entries:
         clock = source.pick(entries).clock + PERIOD - source.below(2)
         if run.clock <= clock <= run.clock + 3 * most:
@@ -315,7 +306,7 @@ def walk(run, steps, networks, pairs, most):
     """Calls at random on these networks and pairs. The clock goes on by
     `most` seconds or less at a time."""
     source = run.source
-    remembered = run.lists.remembered
+    remembered = run.model.remembered
     for _ in range(steps):
         kind = source.below(24)
         if kind < 9:
@@ -330,7 +321,7 @@ def walk(run, steps, networks, pairs, most):
         elif kind < 16:
             run.open(source.pick(pairs))
         elif kind == 16:
-            entries = run.lists.open.entries
+            entries = run.model.open.entries
             if entries and source.below(3):
                 run.close(source.pick(entries).key)
             else:
@@ -408,13 +399,5 @@ def all_cases():
     return run.calls, run.answers
 
 
-def main():
-    calls_path, answers_path = sys.argv[1:]
-    calls, answers = all_cases()
-    for path, lines in ((calls_path, calls), (answers_path, answers)):
-        with open(path, "wb") as output:
-            output.write("".join(line + "\n" for line in lines).encode("ascii"))
-
-
 if __name__ == "__main__":
-    main()
+    write_files(all_cases)

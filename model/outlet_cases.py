@@ -6,8 +6,7 @@ CALLS gets one call to a line, ANSWERS the line of the answer to each call.
 README.md has the format of both. The output is the same on every run.
 """
 
-import sys
-
+from calls import Calls, write_files
 from outlet import LARGEST_NUMBER, answer, new_outlets
 from tape_cases import Source
 
@@ -44,19 +43,11 @@ LARGE_FAULTS = [(12, 16385, "-"), (8, 0, 16385), (12, 16384, 1), (8, 1, 16384), 
                 (11, 16384, 1), (10, 16384, 1)]
 
 
-class Run:
+class Run(Calls):
     """Makes calls on the model and keeps their lines and answers."""
 
     def __init__(self, source):
-        self.source = source
-        self.outlets = new_outlets()
-        self.calls = []
-        self.answers = []
-
-    def ask(self, *fields):
-        line = " ".join(str(field) for field in fields)
-        self.calls.append(line)
-        self.answers.append(answer(self.outlets, line))
+        super().__init__(source, new_outlets(), answer)
 
     def give(self, name, shape):
         """Gives something of this shape. All else is random."""
@@ -76,10 +67,10 @@ class Run:
         self.ask(name, "take", self.source.pick(BUFFERS))
 
     def held(self, name):
-        return len(self.outlets[name].warnings)
+        return len(self.model[name].warnings)
 
     def free(self, name):
-        return self.outlets[name].free()
+        return self.model[name].free()
 
     def state(self, name):
         """What is first, what is free, and the tape unless it is long."""
@@ -474,13 +465,5 @@ def all_cases():
     return run.calls, run.answers
 
 
-def main():
-    calls_path, answers_path = sys.argv[1:]
-    calls, answers = all_cases()
-    for path, lines in ((calls_path, calls), (answers_path, answers)):
-        with open(path, "wb") as output:
-            output.write("".join(line + "\n" for line in lines).encode("ascii"))
-
-
 if __name__ == "__main__":
-    main()
+    write_files(all_cases)

@@ -6,8 +6,7 @@ CALLS gets one call to a line, ANSWERS the line of the answer to each call.
 README.md has the format of both. The output is the same on every run.
 """
 
-import sys
-
+from calls import Calls, write_files
 from store import MOST_NUMBER, answer, new_stores
 from tape_cases import Source
 
@@ -25,35 +24,27 @@ TOO_MANY = [(257, "-"), (257, 0), (0, 257), (256, 1), (1, 256), (128, 129), (255
             (65536, "-"), (1, 65536), (65792, 0)]
 
 
-class Run:
+class Run(Calls):
     """Makes calls on the model and keeps their lines and answers."""
 
     def __init__(self, source):
-        self.source = source
-        self.stores = new_stores()
-        self.calls = []
-        self.answers = []
-
-    def ask(self, *fields):
-        line = " ".join(str(field) for field in fields)
-        self.calls.append(line)
-        self.answers.append(answer(self.stores, line))
+        super().__init__(source, new_stores(), answer)
 
     def seed(self):
         return self.source.below(256)
 
     def free(self, name):
-        return self.stores[name].total() - self.stores[name].held()
+        return self.model[name].total() - self.model[name].held()
 
     def octet_count(self, name, slot, number):
         """Octets of the segment held at this place, 0 if none is."""
-        segment = self.stores[name].segments.get((slot, number))
+        segment = self.model[name].segments.get((slot, number))
         return 0 if segment is None else segment.count()
 
     def units(self, name):
         """Units held, of all and of each slot."""
         self.ask(name, "held")
-        for slot in range(self.stores[name].slots()):
+        for slot in range(self.model[name].slots()):
             self.ask(name, "held_in", slot)
 
     def copy_around(self, name, slot, number):
@@ -65,7 +56,7 @@ class Run:
 
     def copy_all(self, name):
         """Copies out everything that is held."""
-        for slot, number in sorted(self.stores[name].segments):
+        for slot, number in sorted(self.model[name].segments):
             self.ask(name, "copy", slot, number, self.octet_count(name, slot, number))
 
 
@@ -84,7 +75,7 @@ def constants(run):
 def empty_stores(run):
     """Questions and drops where nothing is held."""
     for name in STORES:
-        last = run.stores[name].slots() - 1
+        last = run.model[name].slots() - 1
         run.units(name)
         for slot, number in ((0, 0), (last, MOST_NUMBER)):
             run.ask(name, "has", slot, number)
@@ -138,7 +129,7 @@ def octet_counts(run):
             splits.append((count - 1, 1))
         for length, area in splits:
             name = STORES[turn % 2]
-            slot = turn % run.stores[name].slots()
+            slot = turn % run.model[name].slots()
             number = turn % 64
             seed = run.seed()
             turn += 1
@@ -231,7 +222,7 @@ def orders(run):
     full = {"pool": (4, 20), "berths": (1, 20)}
     for name in STORES:
         slot, number = full[name]
-        beyond = run.stores[name].slots()
+        beyond = run.model[name].slots()
         seed = run.seed()
         # Slot, number, octets.
         for bad_slot, bad_number, length, area in (
@@ -292,7 +283,7 @@ def question(run, name, slot, number):
     elif kind == 3:
         run.ask(name, "lengths", slot, number)
     elif kind == 4:
-        segment = run.stores[name].segments.get((slot, number))
+        segment = run.model[name].segments.get((slot, number))
         if segment is None or source.below(4) == 0:
             run.ask(name, "equals", slot, number, *random_split(source, count), run.seed())
         else:
@@ -332,14 +323,14 @@ def edge(run, name):
 
 
 def some_held(run, name):
-    return run.source.pick(sorted(run.stores[name].segments))
+    return run.source.pick(sorted(run.model[name].segments))
 
 
 def fill(run, name, slots, counts):
     """Puts segments into these slots until no unit is free. `counts` is a
     function that gives an octet count."""
     source = run.source
-    store = run.stores[name]
+    store = run.model[name]
     while run.free(name) > 0:
         slot = source.pick(slots)
         numbers = [number for number in range(64) if (slot, number) not in store.segments]
@@ -371,7 +362,7 @@ def fill(run, name, slots, counts):
 def full(run, name):
     """Calls on a store that has no unit free."""
     source = run.source
-    store = run.stores[name]
+    store = run.model[name]
     run.ask(name, "slots")
     run.ask(name, "total")
     run.ask(name, "held")
@@ -393,7 +384,7 @@ def full(run, name):
 def drop_some(run, name, count):
     """Drops this many slots one after another. What the others hold stays."""
     source = run.source
-    store = run.stores[name]
+    store = run.model[name]
     slots = list(range(store.slots()))
     for _ in range(count):
         slot = source.pick(slots)
@@ -485,13 +476,5 @@ def all_cases():
     return run.calls, run.answers
 
 
-def main():
-    calls_path, answers_path = sys.argv[1:]
-    calls, answers = all_cases()
-    for path, lines in ((calls_path, calls), (answers_path, answers)):
-        with open(path, "wb") as output:
-            output.write("".join(line + "\n" for line in lines).encode("ascii"))
-
-
 if __name__ == "__main__":
-    main()
+    write_files(all_cases)
