@@ -20,20 +20,13 @@ NOT_NAMES = {"let", "use", "module", "in", "elim", "rw", "simp", "cc", "record",
 TOKEN = re.compile(r"[^\s(){}\[\]:;,.=|«»]+|[=|:]+")
 
 
-def antt_files(top):
-    for folder, dirs, files in os.walk(os.path.join(top, "crates")):
+def files(top, ending):
+    """The paths below crates/ of the files with this ending, made folders aside."""
+    for folder, dirs, names in os.walk(os.path.join(top, "crates")):
         dirs[:] = sorted(d for d in dirs if d != "out")
-        for f in sorted(files):
-            if f.endswith(".antt"):
-                yield os.path.join(folder, f)
-
-
-def rust_files(top):
-    for folder, dirs, files in os.walk(os.path.join(top, "crates")):
-        dirs[:] = sorted(d for d in dirs if d != "out")
-        for f in sorted(files):
-            if f.endswith(".rt"):
-                yield os.path.join(folder, f)
+        for name in sorted(names):
+            if name.endswith(ending):
+                yield os.path.join(folder, name)
 
 
 def read(path):
@@ -100,7 +93,7 @@ def lemma(name, words):
 
 def plan(top):
     kinds, where = defaultdict(set), defaultdict(set)
-    for path in antt_files(top):
+    for path in files(top, ".antt"):
         for name, kind in declared(read(path)):
             kinds[name].add(kind)
             where[name].add(os.path.relpath(path, top))
@@ -132,51 +125,31 @@ def imported_elsewhere(text):
     return out
 
 
-def turn_antt(text, new, fields):
+def turn(text, new, fields, is_antt):
+    """The text of a file with its names respelled: of a source file only in the lines that say something ghost."""
     skip = imported_elsewhere(text)
-    lines = []
-    for line in text.split("\n"):
-        code = line
-        if line.lstrip().startswith("--"):
-            lines.append(line)
-            continue
 
-        def one(m):
-            t, i = m[0], m.start()
-            if t not in new or t in skip:
-                return t
-            if i > 0 and code[i - 1] == "." and (i < 2 or not code[i - 2].isspace()):
-                if code[:i].endswith("goal.") or t not in fields:
-                    return t
-            return new[t]
+    def is_turned(line):
+        if is_antt:
+            return not line.lstrip().startswith("--")
+        return not line.lstrip().startswith("//") and re.search(r"\b(ghost|requires|ensures|law)\b", line)
 
-        lines.append(TOKEN.sub(one, code))
-    return "\n".join(lines)
+    def word(line, m):
+        t, i = m[0], m.start()
+        if t not in new or t in skip:
+            return t
+        behind_dot = i > 0 and line[i - 1] == "." and not (is_antt and i > 1 and line[i - 2].isspace())
+        if behind_dot and (t not in fields or is_antt and line[:i].endswith("goal.")):
+            return t
+        return new[t]
 
-
-def turn_rust(text, new, fields):
-    skip = imported_elsewhere(text)
-    lines = []
-    for line in text.split("\n"):
-        if line.lstrip().startswith("//") or not re.search(r"\b(ghost|requires|ensures|law)\b", line):
-            lines.append(line)
-            continue
-
-        def one(m):
-            t, i = m[0], m.start()
-            if t not in new or t in skip:
-                return t
-            if i > 0 and line[i - 1] == "." and t not in fields:
-                return t
-            return new[t]
-
-        lines.append(TOKEN.sub(one, line))
-    return "\n".join(lines)
+    lines = text.split("\n")
+    return "\n".join(TOKEN.sub(lambda m, line=line: word(line, m), line) if is_turned(line) else line for line in lines)
 
 
 def rust_names(top):
     out = set()
-    for path in rust_files(top):
+    for path in files(top, ".rt"):
         for m in re.finditer(r"\b(?:fn|struct|enum|trait|type|const|static|mod) (\w+)|\b(\w+): ", read(path)):
             out.add(m[1] or m[2])
     return out
@@ -199,18 +172,13 @@ def main(argv):
         for n, to in sorted(new.items()):
             print(sorted(kinds[n]), n, "->", to)
         return 0
-    for path in antt_files(top):
-        text = read(path)
-        to = turn_antt(text, new, fields)
-        if to != text:
-            with open(path, "w", encoding="utf-8") as f:
-                f.write(to)
-    for path in rust_files(top):
-        text = read(path)
-        to = turn_rust(text, new, fields)
-        if to != text:
-            with open(path, "w", encoding="utf-8") as f:
-                f.write(to)
+    for ending in (".antt", ".rt"):
+        for path in files(top, ending):
+            text = read(path)
+            to = turn(text, new, fields, ending == ".antt")
+            if to != text:
+                with open(path, "w", encoding="utf-8") as f:
+                    f.write(to)
     return 0
 
 
