@@ -1,8 +1,8 @@
 -- The text of each line of a listing.
 use Rattle.std.specs.Prelude.{ℕ, Bool, true, false, List, ◌++◌, Some, None, codes, decimal, Option}
 use Rattle.warning.specs.declared.Pair.{Pair}
-use Rattle.warning.specs.declared.Outline.{Outline}
-use Rattle.warning.specs.declared.Outline.TheVariants.{Primary, Message}
+use Rattle.warning.specs.declared.Warning.{Warning}
+use Rattle.warning.specs.declared.Warning.TheVariants.{Primary, Message}
 use Rattle.tape.specs.declared.fault.TapeFault.{TapeFault}
 use Rattle.tape.specs.Refusals.{of_tape, offset_of}
 
@@ -30,7 +30,7 @@ abbrev pub message_text : List ℕ → ℕ → ℕ → List ℕ → List ℕ
 message_text start coding message area =
     start ++ (codes " coding " ++ (decimal coding ++ (codes " octets " ++ (decimal message ++ (codes " area " ++ area)))))
 
-abbrev pub entry_text : ℕ → Outline → List ℕ
+abbrev pub entry_text : ℕ → (Warning ℕ) → List ℕ
 entry_text offset (Primary pair warning-type security) = primary_text offset pair warning-type (security_text security)
 entry_text offset (Message block pair coding message area) = message_text (message_start offset block pair) coding message (area_text area)
 

@@ -1,7 +1,7 @@
 -- The answers of an outlet, way by way.
 use Rattle.std.proofs.Common.{◌≡◌, ℕ, ◌≤◌, Bool, true, false, cond, ltb, List, [], ◌∷◌, is_ok, Some, Ok, Err, Result, sym, refl, ap, ◌∙◌, arith}
 use Rattle.std.proofs.lemmas.Bool.{le-ltb, cond-false}
-use Rattle.warning.specs.declared.Outline.{Outline}
+use Rattle.warning.specs.declared.Warning.{Warning}
 use Rattle.warning.specs.Notice.{Notice, outline}
 use Rattle.warning.specs.Numbers.{most_octets}
 use Rattle.warning.specs.Rules.{judged}
@@ -14,7 +14,7 @@ use Rattle.outlet.specs.Outcomes.{give_by, give_outcome, into_buffer, take_outco
 pub unchanged : {X Y : Type 0} (r : Result Y OutletFault) (f : OutletFault) (a b : X) → r ≡ Err f → b ≡ cond (is_ok r) a b
 unchanged r f a b e = ap (λ z. cond (is_ok z) a b) (sym e)
 
-module _ (room : Room) (ws : List Notice) (o : Outline) where
+module _ (room : Room) (ws : List Notice) (o : (Warning ℕ)) where
   -- giving what has room
   pub give_done : (cost free : ℕ) → cost ≡ room.cost o → free ≡ units_free room ws → judged o ≡ Ok tt → cost ≤ free → Ok tt ≡ give_outcome room ws o
   give_done cost free c f j h =
@@ -37,6 +37,6 @@ module _ (ws : List Notice) (n : ℕ) where
   take_long u k = cond-false (ltb n most_octets) _ _ (long_by (ltb n most_octets) u k)
 
 -- what the question for the first warning tells of a take
-pub some_taken : (ws : List Notice) (o : Outline) → Some o ≡ first_of ws → first_taken ws ≡ Ok o
+pub some_taken : (ws : List Notice) (o : (Warning ℕ)) → Some o ≡ first_of ws → first_taken ws ≡ Ok o
 some_taken [] o e = let z : ◌≡◌ {A = ℕ} 0 1 = cc in absurd (omega arith)
 some_taken (w ∷ ws) o e = let z : o ≡ outline w = cc in ap Ok (sym z)

@@ -2,7 +2,7 @@
 use Rattle.std.proofs.Common.{◌≡◌, ℕ, ◌≤◌, false, cond, ltb, List, [], ◌∷◌, length, is_ok, Ok, Err, Result, sym, refl, ap, ◌∙◌, arith}
 use Rattle.std.proofs.lemmas.Bool.{le-ltb, cond-false}
 use Rattle.octets.specs.Octets.{written}
-use Rattle.warning.specs.declared.Outline.{Outline}
+use Rattle.warning.specs.declared.Warning.{Warning}
 use Rattle.warning.specs.declared.WarningFault.{WarningFault}
 use Rattle.warning.specs.Contents.{octets}
 use Rattle.warning.specs.Notice.{Notice, outline}
@@ -23,22 +23,22 @@ given_right : (j : Result (Unit {0}) WarningFault) (cost free : ℕ) → Ok tt �
 given_right (Ok tt) cost free e = refl
 given_right (Err f) cost free e = clash tt _ e
 
-pub given_judged : (room : Room) (ws : List Notice) (o : Outline) → Ok tt ≡ give_outcome room ws o → judged o ≡ Ok tt
+pub given_judged : (room : Room) (ws : List Notice) (o : (Warning ℕ)) → Ok tt ≡ give_outcome room ws o → judged o ≡ Ok tt
 given_judged room ws o e = given_right (judged o) (room.cost o) (units_free room ws) e
 
 -- where there is room, only what is no warning is refused
-refused_by : (j : Result (Unit {0}) WarningFault) (o : Outline) (cost free : ℕ) (e : OutletFault) → (j ≡ Ok tt → cost ≤ free) → Err e ≡ give_by j cost free → Err e ≡ pass_by j o
+refused_by : (j : Result (Unit {0}) WarningFault) (o : (Warning ℕ)) (cost free : ℕ) (e : OutletFault) → (j ≡ Ok tt → cost ≤ free) → Err e ≡ give_by j cost free → Err e ≡ pass_by j o
 refused_by (Ok tt) o cost free e h k =
     let room : ltb free cost ≡ false = le-ltb free cost (h refl) in
     clash tt e (sym (k ∙ cond-false (ltb free cost) _ _ room))
 refused_by (Err f) o cost free e h k = let z : e ≡ NoWarning f = cc in ap Err z
 
-pub refused_pass : (room : Room) (ws : List Notice) (o : Outline) (n : ℕ) (r : Result Outline OutletFault) (e : OutletFault) → Lawful room → Ready ws n → r ≡ Err e → Err e ≡ give_outcome room ws o → r ≡ pass_outcome o
+pub refused_pass : (room : Room) (ws : List Notice) (o : (Warning ℕ)) (n : ℕ) (r : Result (Warning ℕ) OutletFault) (e : OutletFault) → Lawful room → Ready ws n → r ≡ Err e → Err e ≡ give_outcome room ws o → r ≡ pass_outcome o
 refused_pass room ws o n r e lawful ready is k =
     is ∙ refused_by (judged o) o (room.cost o) (units_free room []) e (λ h. omega (arith, lawful.roomy o (judged_right o h))) (k ∙ ap (λ z. give_outcome room z o) ready.0)
 
 -- what was accepted is taken again
-module _ (room : Room) (ws ws₁ : List Notice) (w : Notice) (r : Result Outline OutletFault) (m : List ℕ) (given : Ok tt ≡ give_outcome room ws (outline w)) (newest : ws₁ ≡ with_newest ws w) (value : r ≡ take_outcome ws₁ (length m)) (ready : Ready ws (length m)) where
+module _ (room : Room) (ws ws₁ : List Notice) (w : Notice) (r : Result (Warning ℕ) OutletFault) (m : List ℕ) (given : Ok tt ≡ give_outcome room ws (outline w)) (newest : ws₁ ≡ with_newest ws w) (value : r ≡ take_outcome ws₁ (length m)) (ready : Ready ws (length m)) where
   only : ws₁ ≡ w ∷ []
   only = newest ∙ ap (λ z. with_newest z w) ready.0
 

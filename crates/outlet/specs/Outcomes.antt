@@ -1,7 +1,7 @@
 -- What each call of an outlet answers: the first refusal in the order of the checks, or the answer.
 use Rattle.std.specs.Prelude.{ℕ, cond, List, [], ◌∷◌, ◌++◌, Some, None, Ok, Err, Option, Result, nat_lt}
 use Rattle.octets.specs.Octets.{written}
-use Rattle.warning.specs.declared.Outline.{Outline}
+use Rattle.warning.specs.declared.Warning.{Warning}
 use Rattle.warning.specs.declared.WarningFault.{WarningFault}
 use Rattle.warning.specs.Contents.{octets}
 use Rattle.warning.specs.Notice.{Notice, outline}
@@ -16,7 +16,7 @@ abbrev pub give_by : Result (Unit {0}) WarningFault → ℕ → ℕ → Result (
 give_by (Err f) cost free = Err (NoWarning f)
 give_by (Ok u) cost free = cond (nat_lt free cost) (Err (Full cost free)) (Ok tt)
 
-abbrev pub give_outcome : Room → List Notice → Outline → Result (Unit {0}) OutletFault
+abbrev pub give_outcome : Room → List Notice → (Warning ℕ) → Result (Unit {0}) OutletFault
 give_outcome room ws o = give_by (judged o) (room.cost o) (units_free room ws)
 
 -- the newest stands last
@@ -27,12 +27,12 @@ with_newest ws w = ws ++ (w ∷ [])
 abbrev pub into_buffer : {X : Type 0} → ℕ → Result X OutletFault → Result X OutletFault
 into_buffer n next = cond (nat_lt n most_octets) (Err (Buffer n)) next
 
-abbrev pub first_taken : List Notice → Result Outline OutletFault
+abbrev pub first_taken : List Notice → Result (Warning ℕ) OutletFault
 first_taken [] = Err Empty
 first_taken (w ∷ ws) = Ok (outline w)
 
 -- taking into a buffer of n octets
-abbrev pub take_outcome : List Notice → ℕ → Result Outline OutletFault
+abbrev pub take_outcome : List Notice → ℕ → Result (Warning ℕ) OutletFault
 take_outcome ws n = into_buffer n (first_taken ws)
 
 abbrev pub without_first : List Notice → List Notice
@@ -44,7 +44,7 @@ abbrev pub first_copied : List Notice → List ℕ → List ℕ
 first_copied [] buffer = buffer
 first_copied (w ∷ ws) buffer = written 0 (octets w) buffer
 
-abbrev pub first_of : List Notice → Option Outline
+abbrev pub first_of : List Notice → Option (Warning ℕ)
 first_of [] = None
 first_of (w ∷ ws) = Some (outline w)
 
@@ -52,5 +52,5 @@ abbrev pub cost_by : Result (Unit {0}) WarningFault → ℕ → Result ℕ Warni
 cost_by (Err f) cost = Err f
 cost_by (Ok u) cost = Ok cost
 
-abbrev pub cost_outcome : Room → Outline → Result ℕ WarningFault
+abbrev pub cost_outcome : Room → (Warning ℕ) → Result ℕ WarningFault
 cost_outcome room o = cost_by (judged o) (room.cost o)

@@ -39,7 +39,7 @@ impl OutletFault {
         ensures { result ≡ of_outlet self }
     {
         match self {
-            OutletFault::NoWarning(fault) => fault.refusal(),
+            OutletFault::NoWarning(fault) => fault.into(),
             OutletFault::Full { cost, free } => Refusal {
                 number: 12,
                 values: Values::Two(cost, free),
@@ -65,7 +65,7 @@ pub trait Outlet {
     ghost room: { Self → Room };
 
     // Adds a warning as the newest.
-    fn give(&mut self, w: Warning<'_>) -> Result<(), OutletFault>
+    fn give(&mut self, w: Warning<&[u8]>) -> Result<(), OutletFault>
         ensures value { result ≡ give_outcome (room self.old) (warnings self.old) (outline (said w.entry)) }
         ensures after { warnings self.new ≡ (if is_ok result then with_newest (warnings self.old) (said w.entry) else warnings self.old) }
         ensures same { room self.new ≡ room self.old };

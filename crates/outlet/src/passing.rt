@@ -13,7 +13,7 @@ use warning::{Outline, Warning};
 // then empty again, and every warning passes through it.
 pub fn pass<O: Outlet>(
     outlet: &mut O,
-    w: Warning<'_>,
+    w: Warning<&[u8]>,
     buffer: &mut [u8],
 ) -> Result<Outline, OutletFault>
     ensures value { Ready (O.warnings outlet.old) (length buffer.old) → result ≡ pass_outcome (outline (said w.entry)) }

@@ -48,7 +48,7 @@ fn optional_octets(part: Option<&[u8]>) -> &[u8]
 
 // Writes the octets of a warning to the start of the memory, where they have
 // to fit: the message and then the area, or the security information.
-pub fn lay(memory: &mut [u8], w: Warning<'_>)
+pub fn lay(memory: &mut [u8], w: Warning<&[u8]>)
     requires { octet_count (outline (said w)) ≤ length memory.old }
     ensures { memory.new ≡ written 0 (octets (said w.entry)) memory.old }
 {

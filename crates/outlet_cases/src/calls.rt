@@ -2,7 +2,7 @@
 use outlet::{Outlet, OutletFault};
 use std::alloc::{AllocError, Global};
 use std::str::SplitWhitespace;
-use warning::owned::WarningBuf;
+use warning::WarningBuf;
 use warning::{Outline, Pair, Refusal, Values, WarningFault};
 
 // What each octet of a buffer is before a take.

@@ -21,7 +21,7 @@ mod tests {
         }
     }
 
-    fn primary<'a>(serial: u16, security: Option<&'a [u8]>) -> Warning<'a> {
+    fn primary<'a>(serial: u16, security: Option<&'a [u8]>) -> Warning<&'a [u8]> {
         Warning::Primary {
             pair: pair(serial),
             warning_type: 256,
@@ -34,7 +34,7 @@ mod tests {
         serial: u16,
         message: &'a [u8],
         area: Option<&'a [u8]>,
-    ) -> Warning<'a> {
+    ) -> Warning<&'a [u8]> {
         Warning::Message {
             block,
             pair: pair(serial),

@@ -1,7 +1,7 @@
 -- What the places of a rack hold.
 use Rattle.std.specs.Prelude.{◌≡◌, ℕ, zero, suc, ◌+◌, ◌%◌, ◌<◌, true, List, [], ◌∷◌, length, None, slice_index_or}
 use Rattle.octets.specs.Octets.{written}
-use Rattle.warning.specs.declared.Outline.TheVariants.{Primary}
+use Rattle.warning.specs.declared.Warning.TheVariants.{Primary}
 use Rattle.warning.specs.Contents.{octets, standing}
 use Rattle.warning.specs.Notice.{Notice, outline}
 use Rattle.warning.specs.Numbers.{most_octets}

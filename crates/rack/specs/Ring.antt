@@ -6,7 +6,7 @@ use Rattle.std.proofs.lemmas.List.Sums.{sum_by-cons}
 use Rattle.std.proofs.lemmas.Bool.{cases_eq}
 use Rattle.octets.specs.Octets.{written}
 use Rattle.octets.proofs.Writes.{length-written}
-use Rattle.warning.specs.declared.Outline.{Outline}
+use Rattle.warning.specs.declared.Warning.{Warning}
 use Rattle.warning.specs.Contents.{octets, octet_count}
 use Rattle.warning.specs.Notice.{Notice, outline}
 use Rattle.warning.specs.Numbers.{most_octets}
@@ -50,7 +50,7 @@ pushed_more ps i n j p w all low few e is =
     ap (held_from (slice_set ps j p) i) more ∙ pushed ps i n j p all low few e ∙ ap (λ z. held_from ps i n ++ (z ∷ [])) is
 
 -- the first of them
-pub some_held : (ps : List Place) (i n : ℕ) (o : Outline) → Some o ≡ first_of (held_from ps i n) → 0 < n
+pub some_held : (ps : List Place) (i n : ℕ) (o : (Warning ℕ)) → Some o ≡ first_of (held_from ps i n) → 0 < n
 some_held ps i zero o e = let z : ◌≡◌ {A = ℕ} 0 1 = cc in absurd (omega arith)
 some_held ps i (suc n) o e = omega arith
 
@@ -72,15 +72,15 @@ module _ (ps : List Place) (all : length ps ≡ place_count) (long : Long ps) (r
   first_held i zero low h = absurd (h refl)
   first_held i (suc n) low h = ap Some (sym (head_of i low))
 
-  pub first_head : (i n : ℕ) (o : Outline) → i < place_count → Some o ≡ first_of (held_from ps i n) → o ≡ (place ps i).head
+  pub first_head : (i n : ℕ) (o : (Warning ℕ)) → i < place_count → Some o ≡ first_of (held_from ps i n) → o ≡ (place ps i).head
   first_head i zero o low e = let z : ◌≡◌ {A = ℕ} 0 1 = cc in absurd (omega arith)
   first_head i (suc n) o low e = let z : o ≡ outline (lies (place ps i)) = cc in z ∙ head_of i low
 
-  pub first_right : (i n : ℕ) (o : Outline) → i < place_count → Some o ≡ first_of (held_from ps i n) → is_warning o ≡ true
+  pub first_right : (i n : ℕ) (o : (Warning ℕ)) → i < place_count → Some o ≡ first_of (held_from ps i n) → is_warning o ≡ true
   first_right i n o low e = ap is_warning (first_head i n o low e) ∙ right i
 
   -- its octets, copied to a buffer
-  pub first-octets : (i n k c : ℕ) (o : Outline) (m m₁ : List ℕ) → i < place_count → Some o ≡ first_of (held_from ps i n) → c ≡ octet_count o → k ≡ c → m₁ ≡ written 0 (take k (place ps i).octets) m → m₁ ≡ first_copied (held_from ps i n) m
+  pub first-octets : (i n k c : ℕ) (o : (Warning ℕ)) (m m₁ : List ℕ) → i < place_count → Some o ≡ first_of (held_from ps i n) → c ≡ octet_count o → k ≡ c → m₁ ≡ written 0 (take k (place ps i).octets) m → m₁ ≡ first_copied (held_from ps i n) m
   first-octets i zero k c o m m₁ low e f g w = let z : ◌≡◌ {A = ℕ} 0 1 = cc in absurd (omega arith)
   first-octets i (suc n) k c o m m₁ low e f g w =
       let p = place ps i in

@@ -21,7 +21,7 @@ use warning::{Outline, Pair, Warning, WarningFault};
 
 impl Place {
     // Keeps a warning here.
-    fn keep(&mut self, w: Warning<'_>)
+    fn keep(&mut self, w: Warning<&[u8]>)
         requires { is_warning (outline (said w)) ≡ true }
         ensures { self.new ≡ kept_in (said w.entry) self.old }
     {
@@ -89,7 +89,7 @@ impl Outlet for Rack {
 
     ghost right = { λ s. warnings_held s.places s.all s.long s.right s.oldest s.count s.low };
 
-    fn give(&mut self, w: Warning<'_>) -> Result<(), OutletFault> {
+    fn give(&mut self, w: Warning<&[u8]>) -> Result<(), OutletFault> {
         w.judge()?;
         let free = PLACES - self.count;
         if free < COST {

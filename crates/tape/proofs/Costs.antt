@@ -4,13 +4,14 @@ use Rattle.std.proofs.lemmas.List.{length-append, length-replicate, take_at}
 use Rattle.std.proofs.lemmas.Bool.{le-ltb, eqb-true, and_parts, leb-true, le-leb}
 use Rattle.std.specs.Option.{option_map}
 use Rattle.warning.specs.declared.Pair.{Pair}
-use Rattle.warning.specs.declared.Outline.{Outline}
+use Rattle.warning.specs.declared.Warning.{Warning}
 use Rattle.warning.specs.declared.WarningFault.{WarningFault}
 use Rattle.warning.proofs.Judging.{judged_right}
 use Rattle.octets.specs.Octets.{written}
 use Rattle.tape.specs.declared.fault.WriteFault.{WriteFault}
 use Rattle.tape.specs.declared.fault.WriteFault.TheVariants.{Full}
-use Rattle.warning.specs.Notice.{Notice, primary, message, outline}
+use Rattle.warning.specs.declared.Warning.TheVariants.{Primary, Message}
+use Rattle.warning.specs.Notice.{Notice, outline}
 use Rattle.warning.specs.Rules.{judged, is_warning, carries_message, without_area}
 use Rattle.tape.specs.Format.{encode, pieces, octets_of, cost, part_cost}
 use Rattle.tape.specs.Writing.{cost_by, costed, write_by, write_outcome}
@@ -21,7 +22,7 @@ cost_by-cost (Ok x) n m e = cc
 cost_by-cost (Err f) n m e = let z : ◌≡◌ {A = ℕ} 0 1 = cc in absurd (omega arith)
 
 -- the cost that is answered is the cost
-pub costed-cost : (o : Outline) (n : ℕ) → Ok n ≡ costed o → n ≡ cost o
+pub costed-cost : (o : (Warning ℕ)) (n : ℕ) → Ok n ≡ costed o → n ≡ cost o
 costed-cost o n e = cost_by-cost (judged o) (cost o) n e
 
 -- what is answered where the warning fits
@@ -36,9 +37,9 @@ length-octets_of (Some xs) = refl
 
 -- the octets that a warning takes are its cost
 pub length-encode : (n : Notice) → is_warning (outline n) ≡ true → length (encode n) ≡ cost (outline n)
-length-encode (primary pair warning-type None) h = refl
-length-encode (primary pair warning-type (Some xs)) h = let e = eqb-true (length xs) 50 h in omega arith
-length-encode (message block pair coding octets area) h =
+length-encode (Primary pair warning-type None) h = refl
+length-encode (Primary pair warning-type (Some xs)) h = let e = eqb-true (length xs) 50 h in omega arith
+length-encode (Message block pair coding octets area) h =
     let a = length-pieces octets in
     let b = length-pieces (octets_of area) in
     let c = length-append (pieces octets) (pieces (octets_of area)) in
@@ -66,20 +67,20 @@ most_pieces : (m a : ℕ) → m + a ≤ 16384 → 12 + part_cost m + part_cost a
 most_pieces m a h = omega arith
 
 pub longest_most : (w : Notice) → is_warning (outline w) ≡ true → length (encode w) ≤ 17454
-longest_most (primary pair warning-type security) h = let l = length-encode (primary pair warning-type security) h in omega arith
-longest_most (message block pair coding octets area) h =
-    let l = length-encode (message block pair coding octets area) h in
+longest_most (Primary pair warning-type security) h = let l = length-encode (Primary pair warning-type security) h in omega arith
+longest_most (Message block pair coding octets area) h =
+    let l = length-encode (Message block pair coding octets area) h in
     let first = and_parts (carries_message block) _ h in
     let second = and_parts (not (without_area block && is_some (option_map length area))) _ first.1 in
     let few : length octets + unwrap_or (option_map length area) 0 ≤ 16384 = leb-true _ _ second.1 in
     let most = most_pieces (length octets) (unwrap_or (option_map length area) 0) few in
     omega arith
 
-longest_by : (pair : Pair) (xs ys : List ℕ) → length xs ≡ 1 → length ys ≡ 16383 → (is_warning (outline (message 12 pair 0 xs (Some ys))) ≡ true) × (length (encode (message 12 pair 0 xs (Some ys))) ≡ 17454)
+longest_by : (pair : Pair) (xs ys : List ℕ) → length xs ≡ 1 → length ys ≡ 16383 → (is_warning (outline (Message 12 pair 0 xs (Some ys))) ≡ true) × (length (encode (Message 12 pair 0 xs (Some ys))) ≡ 17454)
 longest_by pair xs ys a b =
     let few : leb (length xs + length ys) 16384 ≡ true = le-leb _ _ (omega arith) in
-    let right : is_warning (outline (message 12 pair 0 xs (Some ys))) ≡ true = few in
-    let l = length-encode (message 12 pair 0 xs (Some ys)) right in
+    let right : is_warning (outline (Message 12 pair 0 xs (Some ys))) ≡ true = few in
+    let l = length-encode (Message 12 pair 0 xs (Some ys)) right in
     let m : part_cost (length xs) ≡ 34 = ap part_cost a in
     let n : part_cost (length ys) ≡ 17408 = ap part_cost b in
     (right, omega arith)
@@ -88,4 +89,4 @@ pub longest_met : (w : Notice) × (is_warning (outline w) ≡ true) × (length (
 longest_met =
     let pair : Pair = record { identifier = 0; serial = 0 } in
     let by = longest_by pair (replicate 1 0) (replicate 16383 0) (length-replicate {A = ℕ} 1 0) (length-replicate {A = ℕ} 16383 0) in
-    (message 12 pair 0 (replicate 1 0) (Some (replicate 16383 0)), by.0, by.1)
+    (Message 12 pair 0 (replicate 1 0) (Some (replicate 16383 0)), by.0, by.1)

@@ -5,7 +5,8 @@ use Rattle.std.proofs.lemmas.Bool.{eq-eqb, and_parts, eqb-true, leb-true, le-leb
 use Rattle.std.specs.Option.{option_map}
 use Rattle.octets.specs.Octets.{two}
 use Rattle.warning.specs.declared.Pair.{Pair}
-use Rattle.warning.specs.Notice.{Notice, primary, message, outline}
+use Rattle.warning.specs.declared.Warning.TheVariants.{Primary, Message}
+use Rattle.warning.specs.Notice.{Notice, outline}
 use Rattle.warning.specs.Rules.{carries_message, without_area, limit, total, is_warning, right_security}
 use Rattle.tape.specs.declared.fault.TapeFault.{TapeFault}
 use Rattle.tape.specs.declared.fault.TapeFault.TheVariants.{Unknown}
@@ -95,7 +96,7 @@ primary_tail pair warning-type security = (pair_octets pair ++ two warning-type)
 primary_made : (pair : Pair) (t flag : ℕ) (xs : List ℕ) (w : Notice) (p p₁ p₂ p₃ p₄ q : Place)
     → Took (pair_octets pair) p p₁ → Took (two t) p₁ p₂ → (leb flag 1 ≡ true) × Took (flag ∷ []) p₂ p₃
     → (cond (eqb flag 0) (all_zero xs) true ≡ true) × (length xs ≡ 50) × Took xs p₃ p₄
-    → (primary pair t (present flag xs) ≡ w) × (p₄ ≡ q) → Entered 0x50 w p q
+    → (Primary pair t (present flag xs) ≡ w) × (p₄ ≡ q) → Entered 0x50 w p q
 primary_made pair t flag xs w p p₁ p₂ p₃ p₄ q ep et ef ex is =
     let same = security_same flag xs (leb-true _ _ ef.0) ex.1 ex.0 in
     let head = took_both (pair_octets pair) (two t) p p₁ p₂ ep et in
@@ -117,11 +118,11 @@ primary_ok p w q e =
     then_elim (security_operand flag p₃) _ w q k₃ (λ security p₄ e₄ k₄.
     then_elim (operand 50 (λ xs. cond (eqb flag 0) (all_zero xs) true) p₃) _ security p₄ e₄ (λ xs p₅ e₅ k₅.
     let is = ok_parts (present flag xs) security p₅ p₄ k₅ in
-    let made = ok_parts (primary pair t security) w p₄ q k₄ in
+    let made = ok_parts (Primary pair t security) w p₄ q k₄ in
     primary_made pair t flag xs w p p₁ p₂ p₃ p₅ q
     (pair_ok p pair p₁ e₁) (number_ok p₁ t p₂ e₂) (octet_ok (λ flag. leb flag 1) p₂ flag p₃ e₃)
     (operand_ok 50 (λ ys. cond (eqb flag 0) (all_zero ys) true) p₃ xs p₅ e₅)
-    (ap (primary pair t) is.0 ∙ made.0, is.1 ∙ made.1))))))
+    (ap (Primary pair t) is.0 ∙ made.0, is.1 ∙ made.1))))))
 
 right_flag : (security : Option (List ℕ)) → leb (flag_of security) 1 ≡ true
 right_flag None = refl
@@ -136,7 +137,7 @@ security_read : (security : Option (List ℕ)) → right_security (option_map le
 security_read None h = (refl, refl, refl, refl)
 security_read (Some xs) h = (eqb-true (length xs) 50 h, refl, refl, refl)
 
-primary_at : (at : ℕ) (pair : Pair) (warning-type : ℕ) (security : Option (List ℕ)) (rest : List ℕ) → right_security (option_map length security) ≡ true → primary_operands (place at (primary_tail pair warning-type security ++ rest)) ≡ Ok (primary pair warning-type security, place (at + 57) rest)
+primary_at : (at : ℕ) (pair : Pair) (warning-type : ℕ) (security : Option (List ℕ)) (rest : List ℕ) → right_security (option_map length security) ≡ true → primary_operands (place at (primary_tail pair warning-type security ++ rest)) ≡ Ok (Primary pair warning-type security, place (at + 57) rest)
 unfolding primary_operands
 primary_at at pair warning-type security rest h =
     let s = security_read security h in
@@ -151,7 +152,7 @@ primary_at at pair warning-type security rest h =
     ∙ then_is _ _ security (place (at + 4 + 2 + 1 + 50) rest)
     (then_is _ _ xs (place (at + 4 + 2 + 1 + 50) rest) (operand_at 50 (λ ys. cond (eqb flag 0) (all_zero ys) true) (at + 4 + 2 + 1) xs rest s.0 s.1)
     ∙ ap (λ z. Ok (z, place (at + 4 + 2 + 1 + 50) rest)) s.2)
-    ∙ ap (λ z. Ok (primary pair warning-type security, place z rest)) moved
+    ∙ ap (λ z. Ok (Primary pair warning-type security, place z rest)) moved
 
 flag_allowed : (b : Bool) → 1 ≤ cond b 0 1 → b ≡ false
 flag_allowed true h = absurd (omega arith)
@@ -216,7 +217,7 @@ message_made : (block : ℕ) (pair : Pair) (coding m flag a : ℕ) (ms as' : Lis
     → (carries_message block ≡ true) × Took (block ∷ []) p p₁ → Took (pair_octets pair) p₁ p₂ → Took (coding ∷ []) p₂ p₃
     → (m ≤ limit block) × Took (two m) p₃ p₄ → (leb flag (most_flag block) ≡ true) × Took (flag ∷ []) p₄ p₅ → (a ≤ most_area block m flag) × Took (two a) p₅ p₆
     → (length ms ≡ m) × Took (pieces ms) p₆ p₇ → (length as' ≡ a) × Took (pieces as') p₇ p₈
-    → (message block pair coding ms (present flag as') ≡ w) × (p₈ ≡ q) → Entered 0x4D w p q
+    → (Message block pair coding ms (present flag as') ≡ w) × (p₈ ≡ q) → Entered 0x4D w p q
 message_made block pair coding m flag a ms as' w p p₁ p₂ p₃ p₄ p₅ p₆ p₇ p₈ q eb ep ec em ef ea eo es is =
     let ar = area_read block m flag a as' (leb-true _ _ ef.0) em.0 ea.0 es.0 in
     let t₇ = took_both (pieces ms) (pieces as') p₆ p₇ p₈ eo.1 es.1 in
@@ -250,7 +251,7 @@ message_ok p w q e =
     (octet_ok carries_message p block p₁ e₁) (pair_ok p₁ pair p₂ e₂) (octet_ok (λ coding. true) p₂ coding p₃ e₃).1
     (number_to_ok (limit block) p₃ m p₄ e₄) (octet_ok (λ flag. leb flag (most_flag block)) p₄ flag p₅ e₅) (number_to_ok (most_area block m flag) p₅ a p₆ e₆)
     (part_ok m p₆ ms p₇ e₇) (part_ok a p₇ as' p₈ e₈)
-    (ok_parts (message block pair coding ms (present flag as')) w p₈ q k₈)))))))))
+    (ok_parts (Message block pair coding ms (present flag as')) w p₈ q k₈)))))))))
 
 -- an area that stands on tape, and what its flag and length may be
 area_fits : (block octets : ℕ) (area : Option (List ℕ)) → not (without_area block && is_some (option_map length area)) ≡ true → octets + unwrap_or (option_map length area) 0 ≤ limit block → (leb (flag_of area) (most_flag block) ≡ true) × (length (octets_of area) ≤ most_area block octets (flag_of area)) × (present (flag_of area) (octets_of area) ≡ area)
@@ -259,7 +260,7 @@ area_fits block octets (Some xs) h k =
     let other = some_allowed (without_area block) h in
     (rw other, omega arith, refl)
 
-message_at : (at block : ℕ) (pair : Pair) (coding : ℕ) (octets : List ℕ) (area : Option (List ℕ)) (rest : List ℕ) → is_warning (outline (message block pair coding octets area)) ≡ true → message_operands (place at (message_tail block pair coding octets area ++ rest)) ≡ Ok (message block pair coding octets area, place (at + 11 + length (pieces octets) + length (pieces (octets_of area))) rest)
+message_at : (at block : ℕ) (pair : Pair) (coding : ℕ) (octets : List ℕ) (area : Option (List ℕ)) (rest : List ℕ) → is_warning (outline (Message block pair coding octets area)) ≡ true → message_operands (place at (message_tail block pair coding octets area ++ rest)) ≡ Ok (Message block pair coding octets area, place (at + 11 + length (pieces octets) + length (pieces (octets_of area))) rest)
 unfolding message_operands
 message_at at block pair coding octets area rest h =
     let xs = octets_of area in
@@ -282,8 +283,8 @@ message_at at block pair coding octets area rest h =
     ∙ then_is _ _ a (place (at + 1 + 4 + 1 + 2 + 1 + 2) r₁) (number_to_at (most_area block m flag) (at + 1 + 4 + 1 + 2 + 1) a r₁ fits.1)
     ∙ then_is _ _ octets (place (at + 1 + 4 + 1 + 2 + 1 + 2 + length (pieces octets)) (pieces xs ++ rest)) (part_at (at + 1 + 4 + 1 + 2 + 1 + 2) octets (pieces xs ++ rest))
     ∙ then_is _ _ xs (place (at + 1 + 4 + 1 + 2 + 1 + 2 + length (pieces octets) + length (pieces xs)) rest) (part_at (at + 1 + 4 + 1 + 2 + 1 + 2 + length (pieces octets)) xs rest)
-    ∙ ap (λ z. Ok (message block pair coding octets z, place (at + 1 + 4 + 1 + 2 + 1 + 2 + length (pieces octets) + length (pieces xs)) rest)) fits.2
-    ∙ ap (λ z. Ok (message block pair coding octets area, place z rest)) moved
+    ∙ ap (λ z. Ok (Message block pair coding octets z, place (at + 1 + 4 + 1 + 2 + 1 + 2 + length (pieces octets) + length (pieces xs)) rest)) fits.2
+    ∙ ap (λ z. Ok (Message block pair coding octets area, place z rest)) moved
 
 pub one_of_two : {X : Type 0} (a b : Bool) (x y : Read X) (f : TapeFault) (z : X × Place) → cond a x (cond b y (Err f)) ≡ Ok z → ((a ≡ true) × (x ≡ Ok z)) ⊎ ((b ≡ true) × (y ≡ Ok z))
 one_of_two true b x y f z e = inl (refl, e)
@@ -311,17 +312,17 @@ entry_ok p w q e =
 -- a warning that stands there is read
 pub entry_at : (at : ℕ) (w : Notice) (rest : List ℕ) → is_warning (outline w) ≡ true → entry (place at (encode w ++ rest)) ≡ Ok (w, place (at + length (encode w)) rest)
 unfolding entry
-entry_at at (primary pair warning-type security) rest h =
-    let long = length-encode (primary pair warning-type security) h in
-    let moved : at + 1 + 57 ≡ at + length (encode (primary pair warning-type security)) = omega (arith, long) in
+entry_at at (Primary pair warning-type security) rest h =
+    let long = length-encode (Primary pair warning-type security) h in
+    let moved : at + 1 + 57 ≡ at + length (encode (Primary pair warning-type security)) = omega (arith, long) in
     then_is _ _ 0x50 (place (at + 1) (primary_tail pair warning-type security ++ rest)) (octet_at (λ c. true) at 0x50 _ refl)
     ∙ primary_at (at + 1) pair warning-type security rest h
-    ∙ ap (λ z. Ok (primary pair warning-type security, place z rest)) moved
-entry_at at (message block pair coding octets area) rest h =
+    ∙ ap (λ z. Ok (Primary pair warning-type security, place z rest)) moved
+entry_at at (Message block pair coding octets area) rest h =
     let p₁ = pieces octets in
     let p₂ = pieces (octets_of area) in
     let both = length-append (pieces octets) (pieces (octets_of area)) in
-    let moved : at + 1 + 11 + length p₁ + length p₂ ≡ at + length (encode (message block pair coding octets area)) = omega arith in
+    let moved : at + 1 + 11 + length p₁ + length p₂ ≡ at + length (encode (Message block pair coding octets area)) = omega arith in
     then_is _ _ 0x4D (place (at + 1) (message_tail block pair coding octets area ++ rest)) (octet_at (λ c. true) at 0x4D _ refl)
     ∙ message_at (at + 1) block pair coding octets area rest h
-    ∙ ap (λ z. Ok (message block pair coding octets area, place z rest)) moved
+    ∙ ap (λ z. Ok (Message block pair coding octets area, place z rest)) moved

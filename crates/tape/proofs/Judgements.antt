@@ -4,7 +4,8 @@ use Rattle.std.proofs.lemmas.List.{length-append, length-replicate, nil_from_len
 use Rattle.std.proofs.lemmas.List.Elements.{All-nil, All-cons, All-replicate}
 use Rattle.std.proofs.lemmas.Bool.{cases_Bool, and_parts, and_from, ltb-true, lt-ltb, leb-true, le-leb, eq-eqb}
 use Rattle.octets.specs.Octets.{two_at}
-use Rattle.warning.specs.Notice.{Notice, primary, message}
+use Rattle.warning.specs.declared.Warning.TheVariants.{Primary, Message}
+use Rattle.warning.specs.Notice.{Notice}
 use Rattle.warning.specs.Rules.{carries_message, limit}
 use Rattle.tape.specs.declared.fault.TapeFault.TheVariants.{Ended}
 use Rattle.tape.specs.Format.{commands_for}
@@ -173,7 +174,7 @@ judged_primary =
     judged_then number _ judged_number (λ warning-type.
     judged_then (octet (λ flag. leb flag 1)) _ (judged_flag 1) (λ flag.
     judged_then (security_operand flag) _ (judged_security flag) (λ security.
-    judged_done (primary pair warning-type security)))))
+    judged_done (Primary pair warning-type security)))))
 
 judged_message : Judged message_operands
 unfolding message_operands
@@ -186,7 +187,7 @@ judged_message =
     judged_then (number_to (most_area block count flag)) _ (judged_number_to (most_area block count flag)) (λ area.
     judged_then (part count) _ (judged_part count) (λ octets.
     judged_then (part area) _ (judged_part area) (λ xs.
-    judged_done (message block pair coding octets (present flag xs))))))))))
+    judged_done (Message block pair coding octets (present flag xs))))))))))
 
 -- the operands of a command that stands there
 entry_by : (at c : ℕ) (t : List ℕ) → entry (place at (c ∷ t)) ≡ by_command c at (place (at + 1) t)

@@ -4,9 +4,9 @@ use Rattle.std.proofs.lemmas.List.{append_assoc, append-nil, take-append-drop, d
 use Rattle.std.proofs.lemmas.Bool.{and_parts}
 use Rattle.std.specs.declared.alloc.Global.{Global}
 use Rattle.warning.specs.declared.WarningFault.{WarningFault}
-use Rattle.warning.specs.declared.owned.WarningBuf.{WarningBuf}
+use Rattle.warning.specs.declared.Warning.{Warning}
 use Rattle.warning.specs.Notice.{Notice, outline}
-use Rattle.warning.specs.Owned.{owned}
+use Rattle.warning.specs.Meaning.{owned}
 use Rattle.warning.specs.Rules.{is_warning, judged}
 use Rattle.warning.proofs.Judging.{judged_right, right_judged}
 use Rattle.tape.specs.declared.fault.WriteError.{WriteError}
@@ -49,10 +49,10 @@ written_all (w ∷ ws) xs e =
     (all, ap (λ z. encode w ++ z) rest.1 ∙ p.3)
 
 -- the warning at an index, among those before and after it
-pub item_more : (xs : List WarningBuf) (i : ℕ) (x : WarningBuf) (w : Notice) → i < length xs → x ≡ get_or xs i x → w ≡ owned x → map owned (take (i + 1) xs) ≡ map owned (take i xs) ++ (w ∷ [])
+pub item_more : (xs : List (Warning (Vec ℕ Global))) (i : ℕ) (x : (Warning (Vec ℕ Global))) (w : Notice) → i < length xs → x ≡ get_or xs i x → w ≡ owned x → map owned (take (i + 1) xs) ≡ map owned (take i xs) ++ (w ∷ [])
 item_more xs i x w h e k = map_more owned xs i x h ∙ ap (λ z. map owned (take i xs) ++ (owned z ∷ [])) (sym e) ∙ ap (λ z. map owned (take i xs) ++ (z ∷ [])) (sym k)
 
-pub item_split : (xs : List WarningBuf) (i : ℕ) (x : WarningBuf) (w : Notice) → i < length xs → x ≡ get_or xs i x → w ≡ owned x → map owned xs ≡ map owned (take i xs) ++ (w ∷ map owned (drop (i + 1) xs))
+pub item_split : (xs : List (Warning (Vec ℕ Global))) (i : ℕ) (x : (Warning (Vec ℕ Global))) (w : Notice) → i < length xs → x ≡ get_or xs i x → w ≡ owned x → map owned xs ≡ map owned (take i xs) ++ (w ∷ map owned (drop (i + 1) xs))
 item_split xs i x w h e k =
     ap (map owned) (sym (take-append-drop i xs))
     ∙ map-append owned (take i xs) (drop i xs)

@@ -4,8 +4,8 @@ use Rattle.std.proofs.lemmas.List.{length-replicate}
 use Rattle.std.proofs.lemmas.Bool.{eq-eqb, ne_eqb, cond-true, cond-false, leb-true, and_from}
 use Rattle.std.specs.Option.{option_map}
 use Rattle.warning.specs.declared.Pair.{Pair}
-use Rattle.warning.specs.declared.Outline.{Outline}
-use Rattle.warning.specs.declared.Outline.TheVariants.{Primary, Message}
+use Rattle.warning.specs.declared.Warning.{Warning}
+use Rattle.warning.specs.declared.Warning.TheVariants.{Primary, Message}
 use Rattle.warning.specs.Rules.{carries_message, without_area, limit, total, is_warning, right_security}
 use Rattle.tape.specs.declared.fault.TapeFault.TheVariants.{Unknown}
 use Rattle.tape.specs.Heads.{primary_outline, message_outline, outline_by, head}
@@ -30,7 +30,7 @@ present_right : (b : Bool) → right_security (cond b None (Some 50)) ≡ true
 present_right true = refl
 present_right false = refl
 
-primary_right : (p : Place) (o : Outline) (q : Place) → primary_outline p ≡ Ok (o, q) → is_warning o ≡ true
+primary_right : (p : Place) (o : (Warning ℕ)) (q : Place) → primary_outline p ≡ Ok (o, q) → is_warning o ≡ true
 unfolding primary_outline
 primary_right p o q e =
     then_elim (pair_operands p) _ o q e (λ pair p₁ e₁ k₁.
@@ -43,7 +43,7 @@ present-length : (b : Bool) (a : ℕ) → option_map length (cond b None (Some (
 present-length true a = refl
 present-length false a = ap Some (length-replicate a 0)
 
-message_made_right : (block : ℕ) (pair : Pair) (coding m flag a : ℕ) (o : Outline) → carries_message block ≡ true → m ≤ limit block → flag ≤ most_flag block → a ≤ most_area block m flag → Message block pair coding m (present flag a) ≡ o → is_warning o ≡ true
+message_made_right : (block : ℕ) (pair : Pair) (coding m flag a : ℕ) (o : (Warning ℕ)) → carries_message block ≡ true → m ≤ limit block → flag ≤ most_flag block → a ≤ most_area block m flag → Message block pair coding m (present flag a) ≡ o → is_warning o ≡ true
 message_made_right block pair coding m flag a o eb em ef ea is =
     let ar = area_read block m flag a (replicate a 0) ef em ea (length-replicate a 0) in
     let same = present-length (eqb flag 0) a in
@@ -51,7 +51,7 @@ message_made_right block pair coding m flag a o eb em ef ea is =
     let few = ap (λ z. leb (total m z) (limit block)) (sym same) ∙ ar.few in
     ap is_warning (sym is) ∙ and_from _ _ eb (and_from _ _ allowed few)
 
-message_right : (p : Place) (o : Outline) (q : Place) → message_outline p ≡ Ok (o, q) → is_warning o ≡ true
+message_right : (p : Place) (o : (Warning ℕ)) (q : Place) → message_outline p ≡ Ok (o, q) → is_warning o ≡ true
 unfolding message_outline
 message_right p o q e =
     then_elim (octet carries_message p) _ o q e (λ block p₁ e₁ k₁.
@@ -64,7 +64,7 @@ message_right p o q e =
     (leb-true _ _ (octet_ok (λ flag. leb flag (most_flag block)) p₄ flag p₅ e₅).0) (number_to_ok (most_area block m flag) p₅ a p₆ e₆).0
     (ok_parts (Message block pair coding m (present flag a)) o p₆ q k₆).0))))))
 
-pub head_right : (p : Place) (o : Outline) (q : Place) → head p ≡ Ok (o, q) → is_warning o ≡ true
+pub head_right : (p : Place) (o : (Warning ℕ)) (q : Place) → head p ≡ Ok (o, q) → is_warning o ≡ true
 unfolding head
 head_right p o q e =
     then_elim (octet (λ c. true) p) _ o q e (λ command r e₁ k.

@@ -3,10 +3,10 @@ use Rattle.std.proofs.Common.{◌≡◌, ℕ, List, ◌++◌, length, take, drop
 use Rattle.std.proofs.lemmas.List.{nil_from_length}
 use Rattle.std.specs.Option.{option_map}
 use Rattle.warning.specs.declared.Pair.{Pair}
-use Rattle.warning.specs.declared.Outline.{Outline}
-use Rattle.warning.specs.declared.Outline.TheVariants.{Primary, Message}
+use Rattle.warning.specs.declared.Warning.{Warning}
+use Rattle.warning.specs.declared.Warning.TheVariants.{Primary, Message}
 use Rattle.warning.specs.Contents.{octets, part_octets}
-use Rattle.warning.specs.Notice.{Notice, primary, message, outline}
+use Rattle.warning.specs.Notice.{Notice, outline}
 use Rattle.tape.specs.declared.fault.TapeFault.{TapeFault}
 use Rattle.tape.specs.Heads.{head, body}
 use Rattle.tape.specs.Reading.{Place, Read, operand, all_zero, part, entry}
@@ -23,7 +23,7 @@ clash x f e = let z : ◌≡◌ {A = ℕ} 0 1 = cc in absurd (omega arith)
 pub head_refused : (p : Place) (f : TapeFault) → head p ≡ Err f → entry p ≡ Err f
 head_refused p f e = entry_split p ∙ then_err (head p) body f e
 
-pub head_read : (p r : Place) (o : Outline) → head p ≡ Ok (o, r) → entry p ≡ body o r
+pub head_read : (p r : Place) (o : (Warning ℕ)) → head p ≡ Ok (o, r) → entry p ≡ body o r
 head_read p r o e = entry_split p ∙ then_is (head p) body o r e
 
 -- a warning that is read has its outline in its head
@@ -42,7 +42,7 @@ module _ (pair : Pair) (t : ℕ) (security : Option ℕ) (p : Place) where
   unfolding body
   primary_refused f e = then_err (security_read security p) _ f e
 
-  pub primary_read : (xs : List ℕ) (q : Place) → security_read security p ≡ Ok (xs, q) → body (Primary pair t security) p ≡ Ok (primary pair t (option_map (λ n. take n xs) security), q)
+  pub primary_read : (xs : List ℕ) (q : Place) → security_read security p ≡ Ok (xs, q) → body (Primary pair t security) p ≡ Ok (Primary pair t (option_map (λ n. take n xs) security), q)
   unfolding body
   primary_read xs q e = then_is (security_read security p) _ xs q e
 
@@ -55,7 +55,7 @@ module _ (block : ℕ) (pair : Pair) (coding m : ℕ) (area : Option ℕ) (p : P
   unfolding body
   area_refused xs r f e k = then_is (part m p) _ xs r e ∙ then_err (part (unwrap_or area 0) r) _ f k
 
-  pub message_read : (xs ys : List ℕ) (r q : Place) → part m p ≡ Ok (xs, r) → part (unwrap_or area 0) r ≡ Ok (ys, q) → body (Message block pair coding m area) p ≡ Ok (message block pair coding xs (option_map (λ n. ys) area), q)
+  pub message_read : (xs ys : List ℕ) (r q : Place) → part m p ≡ Ok (xs, r) → part (unwrap_or area 0) r ≡ Ok (ys, q) → body (Message block pair coding m area) p ≡ Ok (Message block pair coding xs (option_map (λ n. ys) area), q)
   unfolding body
   message_read xs ys r q e k = then_is (part m p) _ xs r e ∙ then_is (part (unwrap_or area 0) r) _ ys q k
 
@@ -72,7 +72,7 @@ pub primary_of : (pair : Pair) (t : ℕ) (security : Option ℕ) (p : Place) (w 
 unfolding body
 primary_of pair t security p w q e =
     then_elim (security_read security p) _ w q e (λ xs r e₁ k.
-    let is = ok_parts (primary pair t (option_map (λ n. take n xs) security)) w r q k in
+    let is = ok_parts (Primary pair t (option_map (λ n. take n xs) security)) w r q k in
     (xs, e₁ ∙ ap (λ z. Ok (xs, z)) is.1, sym (security_octets_taken security xs) ∙ ap octets is.0))
 
 pub message_of : (block : ℕ) (pair : Pair) (coding m : ℕ) (area : Option ℕ) (p : Place) (w : Notice) (q : Place) → body (Message block pair coding m area) p ≡ Ok (w, q) → (xs : List ℕ) × (ys : List ℕ) × (r : Place) × (part m p ≡ Ok (xs, r)) × (part (unwrap_or area 0) r ≡ Ok (ys, q)) × (xs ++ ys ≡ octets w)
@@ -80,6 +80,6 @@ unfolding body
 message_of block pair coding m area p w q e =
     then_elim (part m p) _ w q e (λ xs r e₁ k₁.
     then_elim (part (unwrap_or area 0) r) _ w q k₁ (λ ys s e₂ k₂.
-    let is = ok_parts (message block pair coding xs (option_map (λ n. ys) area)) w s q k₂ in
+    let is = ok_parts (Message block pair coding xs (option_map (λ n. ys) area)) w s q k₂ in
     let same = area_octets area ys (part_ok (unwrap_or area 0) r ys s e₂).0 in
     (xs, ys, r, e₁, e₂ ∙ ap (λ z. Ok (ys, z)) is.1, ap (λ z. xs ++ z) (sym same) ∙ ap octets is.0)))

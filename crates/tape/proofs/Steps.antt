@@ -5,8 +5,8 @@ use Rattle.std.proofs.lemmas.Bool.{and_parts}
 use Rattle.tape.specs.declared.fault.TapeFault.{TapeFault}
 use Rattle.tape.specs.declared.fault.ReadError.{ReadError}
 use Rattle.tape.specs.declared.fault.ReadError.TheVariants.{Fault, Memory}
-use Rattle.warning.specs.declared.owned.WarningBuf.{WarningBuf}
-use Rattle.warning.specs.Owned.{owned}
+use Rattle.warning.specs.declared.Warning.{Warning}
+use Rattle.warning.specs.Meaning.{owned}
 use Rattle.warning.specs.Notice.{Notice, outline}
 use Rattle.warning.specs.Rules.{is_warning}
 use Rattle.tape.specs.Format.{encode, encode_all}
@@ -86,5 +86,5 @@ next_err t at ws (Fault f) h a = let d = length-drop at t in (omega arith, refus
 next_err t at ws Memory h a = (refl, refl)
 
 -- one warning more, in the reader's own memory
-pub owned-more : (xs ys : List WarningBuf) (x : WarningBuf) → ys ≡ xs ++ (x ∷ []) → map owned ys ≡ map owned xs ++ (owned x ∷ [])
+pub owned-more : (xs ys : List (Warning (Vec ℕ Global))) (x : (Warning (Vec ℕ Global))) → ys ≡ xs ++ (x ∷ []) → map owned ys ≡ map owned xs ++ (owned x ∷ [])
 owned-more xs ys x e = ap (map owned) e ∙ map_push owned xs x

@@ -2,7 +2,8 @@
 use Rattle.std.proofs.Common.{◌≡◌, ℕ, zero, suc, ◌+◌, ◌<◌, ◌≤◌, Bool, true, false, cond, eqb, ◌⊎◌, List, [], ◌∷◌, ◌++◌, length, Ok, Err, Result, sym, refl, ap, ◌∙◌, inl, inr, ⊎_elim, arith}
 use Rattle.std.proofs.lemmas.List.{append_assoc, append-nil, length-append, nil_from_length}
 use Rattle.std.proofs.lemmas.Bool.{eq-eqb, ne_eqb, and_parts, eqb-true}
-use Rattle.warning.specs.Notice.{Notice, primary, message, outline}
+use Rattle.warning.specs.declared.Warning.TheVariants.{Primary, Message}
+use Rattle.warning.specs.Notice.{Notice, outline}
 use Rattle.warning.specs.Rules.{is_warning}
 use Rattle.tape.specs.declared.fault.TapeFault.{TapeFault}
 use Rattle.tape.specs.Format.{encode, encode_all}
@@ -13,8 +14,8 @@ use Rattle.tape.proofs.Entries.{entry_ok, entry_at}
 
 -- no warning takes no octets
 pub some_octets : (w : Notice) → 0 < length (encode w)
-some_octets (primary pair warning-type security) = omega arith
-some_octets (message block pair coding octets area) = omega arith
+some_octets (Primary pair warning-type security) = omega arith
+some_octets (Message block pair coding octets area) = omega arith
 
 -- what was taken is missing from the rest
 left_less : (n : ℕ) (w : Notice) (p q : Place) → length p.rest ≤ suc n → Took (encode w) p q → length q.rest ≤ n

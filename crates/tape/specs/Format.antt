@@ -4,9 +4,9 @@ use Rattle.std.specs.Option.{unwrap_or}
 use Rattle.std.specs.List.{flat_map}
 use Rattle.octets.specs.Octets.{two}
 use Rattle.warning.specs.declared.Pair.{Pair}
-use Rattle.warning.specs.declared.Outline.{Outline}
-use Rattle.warning.specs.declared.Outline.TheVariants.{Primary, Message}
-use Rattle.warning.specs.Notice.{Notice, primary, message}
+use Rattle.warning.specs.declared.Warning.{Warning}
+use Rattle.warning.specs.declared.Warning.TheVariants.{Primary, Message}
+use Rattle.warning.specs.Notice.{Notice}
 use Rattle.warning.specs.Numbers.{security_octets}
 use Rattle.tape.specs.Numbers.{primary_command, message_command, data_command, data_octets}
 
@@ -58,8 +58,8 @@ message_head block pair coding octets area =
     message_command ∷ block ∷ (pair_octets pair ++ (coding ∷ (two (length octets) ++ area_head area)))
 
 abbrev pub encode : Notice → List ℕ
-encode (primary pair warning-type security) = primary_head pair warning-type ++ security_part security
-encode (message block pair coding octets area) =
+encode (Primary pair warning-type security) = primary_head pair warning-type ++ security_part security
+encode (Message block pair coding octets area) =
     message_head block pair coding octets area ++ (pieces octets ++ pieces (octets_of area))
 
 -- the warnings of a tape, one after another
@@ -70,6 +70,6 @@ encode_all = flat_map encode
 abbrev pub part_cost : ℕ → ℕ
 part_cost n = commands_for n * 34
 
-abbrev pub cost : Outline → ℕ
+abbrev pub cost : (Warning ℕ) → ℕ
 cost (Primary pair warning-type security) = 58
 cost (Message block pair coding octets area) = 12 + part_cost octets + part_cost (unwrap_or area 0)

@@ -3,10 +3,10 @@ use Rattle.std.specs.Prelude.{◌≡◌, ℕ, true, cond, List, take, drop, Ok, 
 use Rattle.std.specs.Option.{option_map, unwrap_or}
 use Rattle.octets.specs.Octets.{written}
 use Rattle.warning.specs.declared.Pair.{Pair}
-use Rattle.warning.specs.declared.Outline.{Outline}
-use Rattle.warning.specs.declared.Outline.TheVariants.{Primary, Message}
+use Rattle.warning.specs.declared.Warning.{Warning}
+use Rattle.warning.specs.declared.Warning.TheVariants.{Primary, Message}
 use Rattle.warning.specs.Contents.{octets}
-use Rattle.warning.specs.Notice.{Notice, primary, message}
+use Rattle.warning.specs.Notice.{Notice}
 use Rattle.warning.specs.Numbers.{security_octets}
 use Rattle.warning.specs.Rules.{carries_message, limit}
 use Rattle.tape.specs.declared.cursor.Cursor.{Cursor}
@@ -19,7 +19,7 @@ use Rattle.tape.specs.Cursors.{stands}
 use Rattle.tape.specs.Reading.{Place, Read, then, operand, octet, number, number_to, pair_operands, all_zero, present, part, most_flag, most_area, entry}
 
 -- the operands of a primary, up to its security information
-unfoldable pub primary_outline : Place → Read Outline
+unfoldable pub primary_outline : Place → Read (Warning ℕ)
 primary_outline p =
     then (pair_operands p) (λ pair p.
     then (number p) (λ warning-type p.
@@ -27,14 +27,14 @@ primary_outline p =
     Ok (Primary pair warning-type (present flag security_octets), p))))
 
 -- the operands of a message, up to its data
-abbrev pub lengths_outline : ℕ → Pair → ℕ → Place → Read Outline
+abbrev pub lengths_outline : ℕ → Pair → ℕ → Place → Read (Warning ℕ)
 lengths_outline block pair coding p =
     then (number_to (limit block) p) (λ octets p.
     then (octet (λ flag. nat_le flag (most_flag block)) p) (λ flag p.
     then (number_to (most_area block octets flag) p) (λ area p.
     Ok (Message block pair coding octets (present flag area), p))))
 
-unfoldable pub message_outline : Place → Read Outline
+unfoldable pub message_outline : Place → Read (Warning ℕ)
 message_outline p =
     then (octet carries_message p) (λ block p.
     then (pair_operands p) (λ pair p.
@@ -42,25 +42,25 @@ message_outline p =
     lengths_outline block pair coding p)))
 
 -- the operands that belong to a command
-abbrev pub outline_by : ℕ → ℕ → Place → Read Outline
+abbrev pub outline_by : ℕ → ℕ → Place → Read (Warning ℕ)
 outline_by command at p =
     cond (command == primary_command) (primary_outline p)
     (cond (command == message_command) (message_outline p) (Err (Unknown at)))
 
 -- the head of a warning: its command octet and the operands that tell its outline
-unfoldable pub head : Place → Read Outline
+unfoldable pub head : Place → Read (Warning ℕ)
 head p = then (octet (λ c. true) p) (λ command q. outline_by command p.at q)
 
 -- The body of a warning whose outline is known: the security information in its operand, with
 -- zeros past it, or the data commands of the message and of the area.
-unfoldable pub body : Outline → Place → Read Notice
+unfoldable pub body : (Warning ℕ) → Place → Read Notice
 body (Primary pair warning-type security) p =
     then (operand security_octets (λ xs. all_zero (drop (unwrap_or security 0) xs)) p) (λ xs p.
-    Ok (primary pair warning-type (option_map (λ n. take n xs) security), p))
+    Ok (Primary pair warning-type (option_map (λ n. take n xs) security), p))
 body (Message block pair coding count area) p =
     then (part count p) (λ xs p.
     then (part (unwrap_or area 0) p) (λ ys p.
-    Ok (message block pair coding xs (option_map (λ n. ys) area), p)))
+    Ok (Message block pair coding xs (option_map (λ n. ys) area), p)))
 
 -- a warning is its head and then its body, at every place
 abbrev pub HeadThenBody : Type 0

@@ -1,9 +1,9 @@
 -- What a reader of a whole tape means: where it stands, and the warnings that it has read.
 use Rattle.std.specs.Prelude.{◌≡◌, ℕ, ◌<◌, List, [], ◌∷◌, ◌++◌, map, length, drop, Some, None, Ok, Err, vec_items, Option, Result, Vec}
 use Rattle.std.specs.declared.alloc.Global.{Global}
-use Rattle.warning.specs.declared.owned.WarningBuf.{WarningBuf}
+use Rattle.warning.specs.declared.Warning.{Warning}
 use Rattle.warning.specs.Notice.{Notice}
-use Rattle.warning.specs.Owned.{owned}
+use Rattle.warning.specs.Meaning.{owned}
 use Rattle.tape.specs.declared.reader.TapeReader.{TapeReader}
 use Rattle.tape.specs.declared.fault.TapeFault.{TapeFault}
 use Rattle.tape.specs.declared.fault.ReadError.{ReadError}
@@ -30,7 +30,7 @@ Next p ws q vs (Err (Fault f)) = (0 < length p.rest) × (entry p ≡ Err f) × (
 Next p ws q vs (Err Memory) = (q ≡ p) × (vs ≡ ws)
 
 -- a whole tape in memory of its own; where that is wanting, nothing is said
-abbrev pub ReadAs : Result (List Notice) TapeFault → Result (Vec WarningBuf Global) ReadError → Type 0
+abbrev pub ReadAs : Result (List Notice) TapeFault → Result (Vec (Warning (Vec ℕ Global)) Global) ReadError → Type 0
 ReadAs r (Ok ws) = r ≡ Ok (map owned (vec_items ws))
 ReadAs r (Err (Fault f)) = r ≡ Err f
 ReadAs r (Err Memory) = Unit {0}

@@ -2,7 +2,8 @@
 use Rattle.std.specs.Prelude.{ℕ, zero, suc, ◌+◌, ◌-◌, min, Bool, true, cond, ◌&&◌, leb, List, [], ◌∷◌, ◌++◌, length, take, drop, Some, None, Ok, Err, Option, Result, ◌==◌, nat_eq, nat_le, nat_lt, slice_index}
 use Rattle.octets.specs.Octets.{two_at}
 use Rattle.warning.specs.declared.Pair.{Pair}
-use Rattle.warning.specs.Notice.{Notice, primary, message}
+use Rattle.warning.specs.declared.Warning.TheVariants.{Primary, Message}
+use Rattle.warning.specs.Notice.{Notice}
 use Rattle.warning.specs.Numbers.{security_octets}
 use Rattle.warning.specs.Rules.{carries_message, without_area, limit}
 use Rattle.tape.specs.declared.fault.TapeFault.{TapeFault}
@@ -80,7 +81,7 @@ primary_operands p =
     then (number p) (λ warning-type p.
     then (octet (λ flag. leb flag 1) p) (λ flag p.
     then (security_operand flag p) (λ security p.
-    Ok (primary pair warning-type security, p)))))
+    Ok (Primary pair warning-type security, p)))))
 
 -- a data command of which the count is known
 unfoldable pub data_operands : ℕ → Place → Read (List ℕ)
@@ -114,7 +115,7 @@ abbrev pub message_data : ℕ → Pair → ℕ → ℕ → ℕ → ℕ → Place
 message_data block pair coding octets flag area p =
     then (part octets p) (λ message-octets p.
     then (part area p) (λ area_octets p.
-    Ok (message block pair coding message-octets (present flag area_octets), p)))
+    Ok (Message block pair coding message-octets (present flag area_octets), p)))
 
 -- the lengths of a message, and its data
 abbrev pub message_lengths : ℕ → Pair → ℕ → Place → Read Notice

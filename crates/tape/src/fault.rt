@@ -38,7 +38,7 @@ impl WriteFault {
         ensures { result ≡ of_write self }
     {
         match self {
-            WriteFault::NoWarning(fault) => fault.refusal(),
+            WriteFault::NoWarning(fault) => fault.into(),
             WriteFault::Full { cost, free } => Refusal {
                 number: 12,
                 values: Values::Two(cost, free),

@@ -5,7 +5,7 @@ ghost use Rattle.octets.specs.Octets.{written};
 ghost use Rattle.warning.specs.Contents.{octets};
 ghost use Rattle.warning.specs.Notice.{Notice, outline as outline_of};
 ghost use Rattle.warning.specs.Numbers.{most_octets, security_octets};
-ghost use Rattle.warning.specs.Owned.{owned};
+ghost use Rattle.warning.specs.Meaning.{owned};
 ghost use Rattle.warning.specs.Rules.{is_warning};
 ghost use Rattle.tape.specs.Cursors.{stands, gave, Within};
 ghost use Rattle.tape.specs.Heads.{primary_outline, lengths_outline, message_outline, head, body, HeadThenBody, answered, AnsweredAs, copied, Skipped, PartCopied};
@@ -19,7 +19,7 @@ use crate::read::{entry, most_area, most_flag};
 use octets::put;
 use std::alloc::Global;
 use warning::numbers::*;
-use warning::owned::WarningBuf;
+use warning::WarningBuf;
 use warning::{Outline, Pair, octet_limit};
 
 // A length, if its flag says that the part is there.

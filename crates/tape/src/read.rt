@@ -1,6 +1,6 @@
 // Reading warnings, command by command, into memory of their own.
 ghost use Rattle.std.specs.Prelude.{◌≡◌, ℕ, ◌+◌, ◌≤◌, List, IfOk, vec_items};
-ghost use Rattle.warning.specs.Owned.{kept, owned};
+ghost use Rattle.warning.specs.Meaning.{kept, owned};
 ghost use Rattle.tape.specs.Cursors.{stands, Agrees, Within};
 ghost use Rattle.tape.specs.Reading.{part, present, security_operand, primary_operands, most_flag, most_area, message_data, message_lengths, message_operands, entry};
 
@@ -10,7 +10,7 @@ use crate::numbers::*;
 use crate::operands::*;
 use std::alloc::Global;
 use warning::numbers::*;
-use warning::owned::WarningBuf;
+use warning::WarningBuf;
 use warning::{Pair, octet_limit};
 
 // The octets of one part, gathered from its data commands.

@@ -1,10 +1,10 @@
 // A reader of a whole tape, and what it has read so far.
 ghost use Rattle.std.specs.Prelude.{◌≡◌, ◌≤◌, true, map, length, take};
-ghost use Rattle.warning.specs.Owned.{owned};
+ghost use Rattle.warning.specs.Meaning.{owned};
 ghost use Rattle.tape.specs.Format.{encode_all};
 ghost use Rattle.tape.specs.Promises.{all_warnings};
 
-use warning::owned::WarningBuf;
+use warning::WarningBuf;
 
 // At all times, what was read writes back as the octets that were passed.
 #[derive(Drop)]

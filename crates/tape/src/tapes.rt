@@ -1,6 +1,6 @@
 // Reading and writing whole tapes.
 ghost use Rattle.std.specs.Prelude.{◌≡◌, ℕ, List, [], ◌∷◌, ◌++◌, map, take, IfOk, IfErr, Ok};
-ghost use Rattle.warning.specs.Owned.{owned};
+ghost use Rattle.warning.specs.Meaning.{owned};
 ghost use Rattle.tape.specs.Format.{encode_all};
 ghost use Rattle.tape.specs.Promises.{ReadsWhatWasWritten, WritesWhatWasRead};
 ghost use Rattle.tape.specs.Readers.{whole_tape, stands_at, read_so_far, Next, ReadAs};
@@ -13,7 +13,7 @@ use crate::read::entry;
 use crate::reader::TapeReader;
 use crate::write_all::write_all;
 use std::alloc::Global;
-use warning::owned::WarningBuf;
+use warning::WarningBuf;
 
 impl<'a> TapeReader<'a> {
     // A reader at the start of a tape.

@@ -2,7 +2,7 @@
 ghost use Rattle.std.specs.Prelude.{◌≡◌, ℕ, ◌+◌, ◌-◌, ◌≤◌, true, ◌++◌, length, is_ok, IfOk, if◌then◌else◌};
 ghost use Rattle.octets.specs.Octets.{two, written};
 ghost use Rattle.warning.specs.Meaning.{lent, said};
-ghost use Rattle.warning.specs.Notice.{outline, primary};
+ghost use Rattle.warning.specs.Notice.{outline};
 ghost use Rattle.warning.specs.Rules.{is_warning};
 ghost use Rattle.tape.specs.Format.{encode, piece, pieces, part_cost, pair_octets, primary_head, area_head, message_head, security_part, octets_of};
 ghost use Rattle.tape.specs.Writing.{costed, write_outcome};
@@ -103,7 +103,7 @@ fn put_primary(
     requires fit { at + 58 ≤ length memory.old }
     requires sized { length (security_part (lent security)) ≡ 51 }
     ensures next { result ≡ at + 58 }
-    ensures after { memory.new ≡ written at (encode (primary pair warning_type (lent security.entry))) memory.old }
+    ensures after { memory.new ≡ written at (encode (Warning.Primary pair warning_type (lent security.entry))) memory.old }
 {
     let next = put(memory, at, &primary_head(pair, warning_type));
     match security {
@@ -179,7 +179,7 @@ fn put_message(
 
 // Writes a warning at a place of lent memory, and answers the place after it.
 // A refusal leaves the memory as it was.
-pub fn write(memory: &mut [u8], at: usize, w: Warning<'_>) -> Result<usize, WriteFault>
+pub fn write(memory: &mut [u8], at: usize, w: Warning<&[u8]>) -> Result<usize, WriteFault>
     ensures value { result ≡ write_outcome (outline (said w.entry)) (length memory.old - at) at }
     ensures after { memory.new ≡ (if is_ok result then written at (encode (said w.entry)) memory.old else memory.old) }
 {

@@ -1,7 +1,7 @@
 // Writing a list of warnings into memory of its own.
 ghost use Rattle.std.specs.Prelude.{◌≡◌, ℕ, List, [], ◌∷◌, ◌++◌, map, IfOk, Ok};
 ghost use Rattle.warning.specs.Meaning.{said};
-ghost use Rattle.warning.specs.Owned.{owned};
+ghost use Rattle.warning.specs.Meaning.{owned};
 ghost use Rattle.tape.specs.Promises.{Appended, WrittenAs};
 ghost use Rattle.tape.specs.Reading.{read_tape};
 
@@ -10,10 +10,10 @@ use crate::numbers::*;
 use crate::write::write;
 use std::alloc::Global;
 use warning::Warning;
-use warning::owned::WarningBuf;
+use warning::WarningBuf;
 
 // Adds one warning to the end of a tape. An error leaves the tape as it was.
-pub fn append(tape: &mut Vec<u8>, w: Warning<'_>) -> Result<(), WriteError>
+pub fn append(tape: &mut Vec<u8>, w: Warning<&[u8]>) -> Result<(), WriteError>
     ensures { Appended tape.old.items (said w.entry) tape.new.items result }
 {
     let mut entry = [0u8; LONGEST_ENTRY];

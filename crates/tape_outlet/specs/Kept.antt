@@ -7,8 +7,8 @@ use Rattle.std.proofs.lemmas.List.Sums.{sum_by-cons}
 use Rattle.std.proofs.lemmas.Bool.{and_parts, and_from, leb-true, ltb-false}
 use Rattle.std.specs.Option.{unwrap_or}
 use Rattle.octets.specs.Octets.{written}
-use Rattle.warning.specs.declared.Outline.{Outline}
-use Rattle.warning.specs.declared.Outline.TheVariants.{Primary, Message}
+use Rattle.warning.specs.declared.Warning.{Warning}
+use Rattle.warning.specs.declared.Warning.TheVariants.{Primary, Message}
 use Rattle.warning.specs.declared.WarningFault.{WarningFault}
 use Rattle.warning.specs.Contents.{octets}
 use Rattle.warning.specs.Notice.{Notice, outline}
@@ -125,17 +125,17 @@ first_read t ws k some =
       laid = λ m. ap (λ z. first_copied z m) (sym s.2);
     }
 
-pub told_same : (o o′ : Outline) (n n′ : ℕ) → ◌≡◌ {A = Result (Outline × ℕ) TapeFault} (Ok (o, n)) (Ok (o′, n′)) → o ≡ o′
+pub told_same : (o o′ : (Warning ℕ)) (n n′ : ℕ) → ◌≡◌ {A = Result ((Warning ℕ) × ℕ) TapeFault} (Ok (o, n)) (Ok (o′, n′)) → o ≡ o′
 told_same o o′ n n′ e =
-    let both : ◌≡◌ {A = Outline × ℕ} (o, n) (o′, n′) = cc in
+    let both : ◌≡◌ {A = (Warning ℕ) × ℕ} (o, n) (o′, n′) = cc in
     ap (λ z. z.0) both
 
 -- removing it
-some_parts : (ws : List Notice) (o : Outline) → Some o ≡ first_of ws → (w : Notice) × (rest : List Notice) × (ws ≡ w ∷ rest) × (o ≡ outline w)
+some_parts : (ws : List Notice) (o : (Warning ℕ)) → Some o ≡ first_of ws → (w : Notice) × (rest : List Notice) × (ws ≡ w ∷ rest) × (o ≡ outline w)
 some_parts [] o e = let z : ◌≡◌ {A = ℕ} 0 1 = cc in absurd (omega arith)
 some_parts (w ∷ ws) o e = let z : o ≡ outline w = cc in (w, ws, refl, z)
 
-module _ (t : List ℕ) (ws : List Notice) (o : Outline) (k : Kept t ws) (e : Some o ≡ first_of ws) where
+module _ (t : List ℕ) (ws : List Notice) (o : (Warning ℕ)) (k : Kept t ws) (e : Some o ≡ first_of ws) where
   pub first_right : is_warning o ≡ true
   first_right =
       let s = some_parts ws o e in
@@ -199,7 +199,7 @@ refused : (j : Result (Unit {0}) WarningFault) (n free at : ℕ) (f : WriteFault
 refused (Ok tt) n free at f e = refused_by (nat_lt free n) n free at f e
 refused (Err g) n free at f e = let z : f ≡ NotWritten g = cc in ap (λ y. Err (as_outlet y)) z
 
-module _ (ws : List Notice) (o : Outline) (free at : ℕ) (is : free ≡ units_free tape_room ws) where
+module _ (ws : List Notice) (o : (Warning ℕ)) (free at : ℕ) (is : free ≡ units_free tape_room ws) where
   pub give_wrote : (end : ℕ) → Ok end ≡ write_outcome o free at → (judged o ≡ Ok tt) × (end ≡ at + cost o) × (Ok tt ≡ give_outcome tape_room ws o) × (cost o ≤ free)
   give_wrote end e =
       let p = wrote (judged o) (cost o) free at end e in
@@ -220,7 +220,7 @@ costs_within t = omega (arith, used_costs t.octets t.used (holding t) t.all t.wi
 fits : (m a : ℕ) → m + a ≤ 16384 → 12 + part_cost m + part_cost a ≤ tape_octets
 fits m a h = omega arith
 
-roomy : (o : Outline) → is_warning o ≡ true → cost o ≤ tape_octets
+roomy : (o : (Warning ℕ)) → is_warning o ≡ true → cost o ≤ tape_octets
 roomy (Primary pair t security) h = omega arith
 roomy (Message block pair coding m area) h =
     let first = and_parts (carries_message block) _ h in

@@ -100,7 +100,7 @@ impl Outlet for TapeOutlet {
 
     ghost right = { λ s. each_right (holding s) s.right };
 
-    fn give(&mut self, w: Warning<'_>) -> Result<(), OutletFault> {
+    fn give(&mut self, w: Warning<&[u8]>) -> Result<(), OutletFault> {
         match write(&mut self.octets, self.used, w) {
             Ok(end) => {
                 self.used = end;

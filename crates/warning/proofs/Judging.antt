@@ -1,8 +1,8 @@
 -- What is judged a warning is one, and the other way round.
 use Rattle.std.proofs.Common.{◌≡◌, ℕ, Bool, true, false, cond, not, ◌&&◌, eqb, ltb, leb, is_some, is_ok, Some, None, Ok, Err, Option, Result, sym, refl, ap, ◌∙◌, ⊎_elim, arith}
 use Rattle.std.proofs.lemmas.Bool.{cases_lt, lt-ltb, le-ltb, le-leb, lt-leb}
-use Rattle.warning.specs.declared.Outline.{Outline}
-use Rattle.warning.specs.declared.Outline.TheVariants.{Primary, Message}
+use Rattle.warning.specs.declared.Warning.{Warning}
+use Rattle.warning.specs.declared.Warning.TheVariants.{Primary, Message}
 use Rattle.warning.specs.declared.WarningFault.{WarningFault}
 use Rattle.warning.specs.declared.WarningFault.TheVariants.{Security}
 use Rattle.warning.specs.Rules.{carries_message, without_area, limit, total, judged, judged_security, right_security, is_warning}
@@ -28,7 +28,7 @@ three true false true f g h = refl
 three true false false f g h = refl
 three false b d f g h = refl
 
-pub judged_is : (o : Outline) → is_ok (judged o) ≡ is_warning o
+pub judged_is : (o : Warning ℕ) → is_ok (judged o) ≡ is_warning o
 judged_is (Primary pair warning-type security) = security_is security
 judged_is (Message block pair coding message area) =
     three (carries_message block) (without_area block && is_some area) (ltb (limit block) (total message area)) _ _ _
@@ -38,8 +38,8 @@ ok_unit : (r : Result (Unit {0}) WarningFault) → is_ok r ≡ true → r ≡ Ok
 ok_unit (Ok tt) h = refl
 ok_unit (Err f) h = let z : ◌≡◌ {A = ℕ} 0 1 = cc in absurd (omega arith)
 
-pub right_judged : (o : Outline) → is_warning o ≡ true → judged o ≡ Ok tt
+pub right_judged : (o : Warning ℕ) → is_warning o ≡ true → judged o ≡ Ok tt
 right_judged o h = ok_unit (judged o) (judged_is o ∙ h)
 
-pub judged_right : (o : Outline) → judged o ≡ Ok tt → is_warning o ≡ true
+pub judged_right : (o : Warning ℕ) → judged o ≡ Ok tt → is_warning o ≡ true
 judged_right o h = sym (judged_is o) ∙ ap is_ok h

@@ -1,6 +1,5 @@
 pub mod Numbers
 pub mod Networks
-pub mod Owned
 pub mod Notice
 pub mod Meaning
 pub mod Rules

@@ -2,18 +2,17 @@
 // the judging of what is no warning, with its refusals.
 #![tactic(auto)]
 
-ghost use Rattle.std.specs.Prelude.{◌≡◌, length, is_ok};
-ghost use Rattle.std.specs.Option.{option_map};
+ghost use Rattle.std.specs.Prelude.{◌≡◌, is_ok, Some};
+ghost use Rattle.warning.specs.Meaning.{said, owned};
 ghost use Rattle.warning.specs.Notice.{outline};
-ghost use Rattle.warning.specs.Meaning.{lent, said};
-ghost use Rattle.warning.specs.Rules.{radio_of, carries_message, limit, judged, judged_security, judged_message, is_warning};
-ghost use Rattle.warning.specs.Refusals.{of_warning};
+ghost use Rattle.warning.specs.Rules.{radio_read, carries_message, limit, judged, judged_security, judged_message, is_warning};
+ghost use Rattle.warning.specs.Refusals.{of_warning, refusal_text};
 
 pub mod network;
 pub mod numbers;
-pub mod owned;
 
 use numbers::*;
+use std::fmt;
 
 // What tells warnings apart: the message identifier and the serial number.
 #[derive(Clone, Copy, PartialEq, Eq, Debug)]
@@ -29,52 +28,47 @@ pub enum Radio {
     Nr,
 }
 
-impl Radio {
-    // The radio that an octet names, if it names one.
-    pub fn from_octet(octet: u8) -> Option<Radio>
-        ensures { result ≡ radio_of octet }
-    {
+// An octet that names no radio.
+#[derive(Clone, Copy, PartialEq, Eq, Debug)]
+pub struct UnknownRadio(pub u8);
+
+impl TryFrom<u8> for Radio {
+    type Error = UnknownRadio;
+
+    ghost try_from_gives = { λ octet r. r ≡ radio_read octet };
+
+    fn try_from(octet: u8) -> Result<Radio, UnknownRadio> {
         match octet {
-            RADIO_LTE => Some(Radio::Lte),
-            RADIO_NR => Some(Radio::Nr),
-            _ => None,
+            RADIO_LTE => Ok(Radio::Lte),
+            RADIO_NR => Ok(Radio::Nr),
+            _ => Err(UnknownRadio(octet)),
         }
     }
 }
 
-// A warning: either a primary or a message. Its octets are borrowed.
-#[derive(Clone, Copy)]
-pub enum Warning<'a> {
+// A warning: either a primary or a message. Its parts are octets that it
+// borrows or owns, or their lengths.
+#[derive(Clone, Copy, PartialEq, Eq, Debug, Drop)]
+pub enum Warning<T> {
     Primary {
         pair: Pair,
         warning_type: u16,
-        security: Option<&'a [u8]>,
+        security: Option<T>,
     },
     Message {
         block: u8,
         pair: Pair,
         coding: u8,
-        message: &'a [u8],
-        area: Option<&'a [u8]>,
+        message: T,
+        area: Option<T>,
     },
 }
 
 // A warning without its octets: lengths stand in their place.
-#[derive(Clone, Copy, PartialEq, Eq, Debug)]
-pub enum Outline {
-    Primary {
-        pair: Pair,
-        warning_type: u16,
-        security: Option<usize>,
-    },
-    Message {
-        block: u8,
-        pair: Pair,
-        coding: u8,
-        message: usize,
-        area: Option<usize>,
-    },
-}
+pub type Outline = Warning<usize>;
+
+// A warning with its own octets, as it is read from a tape.
+pub type WarningBuf = Warning<Vec<u8>>;
 
 // Why something is no warning.
 #[derive(Clone, Copy, PartialEq, Eq, Debug)]
@@ -103,28 +97,30 @@ pub enum Values {
     Two(usize, usize),
 }
 
-impl WarningFault {
-    pub fn refusal(self) -> Refusal
-        ensures { result ≡ of_warning self }
-    {
-        match self {
-            WarningFault::Block(block) => Refusal {
-                number: 3,
-                values: Values::One(usize::from(block)),
-            },
-            WarningFault::Area => Refusal {
-                number: 6,
-                values: Values::Nothing,
-            },
-            WarningFault::TooLong(count) => Refusal {
-                number: 7,
-                values: Values::One(count),
-            },
-            WarningFault::Security(length) => Refusal {
-                number: 15,
-                values: Values::One(length),
-            },
+impl fmt::Display for Refusal {
+    ghost output = { λ r. Some (refusal_text r) };
+
+    fn fmt<W: fmt::Write>(&self, f: &mut fmt::Formatter<W>) -> fmt::Result {
+        let number = self.number;
+        match self.values {
+            Values::Nothing => write!(f, "refused {number}"),
+            Values::One(first) => write!(f, "refused {number} {first}"),
+            Values::Two(first, second) => write!(f, "refused {number} {first} {second}"),
         }
+    }
+}
+
+impl From<WarningFault> for Refusal {
+    ghost from_gives = { λ f r. r ≡ of_warning f };
+
+    fn from(fault: WarningFault) -> Refusal {
+        let (number, values) = match fault {
+            WarningFault::Block(block) => (3, Values::One(usize::from(block))),
+            WarningFault::Area => (6, Values::Nothing),
+            WarningFault::TooLong(count) => (7, Values::One(count)),
+            WarningFault::Security(length) => (15, Values::One(length)),
+        };
+        Refusal { number, values }
     }
 }
 
@@ -174,8 +170,8 @@ impl Outline {
         ensures exact { is_ok result ≡ is_warning self }
     {
         match self {
-            Outline::Primary { security, .. } => judge_security(security),
-            Outline::Message {
+            Warning::Primary { security, .. } => judge_security(security),
+            Warning::Message {
                 block,
                 message,
                 area,
@@ -185,17 +181,7 @@ impl Outline {
     }
 }
 
-// The length of a part that may be absent.
-fn optional_len(part: Option<&[u8]>) -> Option<usize>
-    ensures { result ≡ option_map length (lent part.entry) }
-{
-    match part {
-        Some(octets) => Some(octets.len()),
-        None => None,
-    }
-}
-
-impl Warning<'_> {
+impl Warning<&[u8]> {
     // The warning without its octets.
     pub fn outline(self) -> Outline
         ensures { result ≡ outline (said self.entry) }
@@ -205,10 +191,10 @@ impl Warning<'_> {
                 pair,
                 warning_type,
                 security,
-            } => Outline::Primary {
+            } => Warning::Primary {
                 pair,
                 warning_type,
-                security: optional_len(security),
+                security: security.map(|octets| octets.len()),
             },
             Warning::Message {
                 block,
@@ -216,12 +202,12 @@ impl Warning<'_> {
                 coding,
                 message,
                 area,
-            } => Outline::Message {
+            } => Warning::Message {
                 block,
                 pair,
                 coding,
                 message: message.len(),
-                area: optional_len(area),
+                area: area.map(|octets| octets.len()),
             },
         }
     }
@@ -232,5 +218,37 @@ impl Warning<'_> {
         ensures exact { is_ok result ≡ is_warning (outline (said self.entry)) }
     {
         self.outline().judge()
+    }
+}
+
+impl WarningBuf {
+    // The same warning, with borrowed octets.
+    pub fn as_warning(&self) -> Warning<&[u8]>
+        ensures { said result ≡ owned self.now }
+    {
+        match self {
+            Warning::Primary {
+                pair,
+                warning_type,
+                security,
+            } => Warning::Primary {
+                pair: *pair,
+                warning_type: *warning_type,
+                security: security.as_deref(),
+            },
+            Warning::Message {
+                block,
+                pair,
+                coding,
+                message,
+                area,
+            } => Warning::Message {
+                block: *block,
+                pair: *pair,
+                coding: *coding,
+                message: message.as_slice(),
+                area: area.as_deref(),
+            },
+        }
     }
 }

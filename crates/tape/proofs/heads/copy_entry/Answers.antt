@@ -1,6 +1,6 @@
 use Rattle.std.proofs.Common.{◌≡◌, ℕ, List, Ok, Err, Result, sym, ap, ◌∙◌}
 use Rattle.std.proofs.lemmas.Result.{err_from_is_err_and}
-use Rattle.warning.specs.declared.Outline.{Outline}
+use Rattle.warning.specs.declared.Warning.{Warning}
 use Rattle.warning.specs.Notice.{outline}
 use Rattle.tape.specs.declared.fault.TapeFault.{TapeFault}
 use Rattle.tape.specs.Cursors.{stands}
@@ -11,7 +11,7 @@ use Rattle.tape.proofs.Bodies.{body_outline}
 use Rattle.tape.proofs.Readings.{clash, head_refused, head_read}
 use Rattle.tape.proofs.heads.copy_entry.Goals as goal
 
-refused_entry : (p : Place) (f : TapeFault) (memory : List ℕ) → entry p ≡ Err f → (◌≡◌ {A = Result (Outline × ℕ) TapeFault} (Err f) (answered outline (entry p))) × (memory ≡ copied (entry p) memory)
+refused_entry : (p : Place) (f : TapeFault) (memory : List ℕ) → entry p ≡ Err f → (◌≡◌ {A = Result ((Warning ℕ) × ℕ) TapeFault} (Err f) (answered outline (entry p))) × (memory ≡ copied (entry p) memory)
 refused_entry p f memory e = (ap (answered outline) (sym e), ap (λ z. copied z memory) (sym e))
 
 pub returns-in_err-outline : goal.returns-in_err-outline

@@ -1,6 +1,6 @@
 use Rattle.std.proofs.Common.{leb, Ok, ap}
 use Rattle.std.proofs.lemmas.Result.{err_from_is_err_and}
-use Rattle.warning.specs.declared.Outline.TheVariants.{Message}
+use Rattle.warning.specs.declared.Warning.TheVariants.{Message}
 use Rattle.warning.specs.Rules.{limit}
 use Rattle.tape.specs.Cursors.{stands}
 use Rattle.tape.specs.Reading.{number_to, octet, most_flag, most_area}

@@ -1,6 +1,6 @@
 use Rattle.std.proofs.Common.{leb, Ok, ap}
 use Rattle.std.proofs.lemmas.Result.{err_from_is_err_and}
-use Rattle.warning.specs.declared.Outline.TheVariants.{Primary}
+use Rattle.warning.specs.declared.Warning.TheVariants.{Primary}
 use Rattle.tape.specs.Cursors.{stands}
 use Rattle.tape.specs.Heads.{primary_outline}
 use Rattle.tape.specs.Reading.{pair_operands, number, octet}

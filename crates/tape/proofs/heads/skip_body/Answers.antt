@@ -2,9 +2,9 @@ use Rattle.std.proofs.Common.{◌≡◌, ℕ, List, take, Ok, Err, Option, Resul
 use Rattle.std.proofs.lemmas.Result.{err_from_is_err_and}
 use Rattle.std.specs.Option.{option_map}
 use Rattle.warning.specs.declared.Pair.{Pair}
-use Rattle.warning.specs.declared.Outline.{Outline}
-use Rattle.warning.specs.declared.Outline.TheVariants.{Message}
-use Rattle.warning.specs.Notice.{primary, message}
+use Rattle.warning.specs.declared.Warning.{Warning}
+use Rattle.warning.specs.declared.Warning.TheVariants.{Message, Primary}
+
 use Rattle.tape.specs.declared.cursor.Cursor.{Cursor}
 use Rattle.tape.specs.declared.fault.TapeFault.{TapeFault}
 use Rattle.tape.specs.Cursors.{stands}
@@ -26,7 +26,7 @@ returns-in_ok-_octets-in-Primary c =
     let o = c.in-Primary in
     let xs = c.in_ok-_octets-in-Primary._octets.now in
     record {
-      value = (primary o.pair o.warning_type (option_map (λ n. take n xs) o.security), ap (λ z. body z (stands c.args.input)) o.is ∙ primary_read o.pair o.warning_type o.security (stands c.args.input) xs (stands c.in_ok-_octets-in-Primary.rest) (sym e));
+      value = (Primary o.pair o.warning_type (option_map (λ n. take n xs) o.security), ap (λ z. body z (stands c.args.input)) o.is ∙ primary_read o.pair o.warning_type o.security (stands c.args.input) xs (stands c.in_ok-_octets-in-Primary.rest) (sym e));
       within = c.in_ok-_octets-in-Primary.ensures.within;
     }
 
@@ -37,9 +37,9 @@ returns-in_err-rest-in-Message c =
     rw (p.1, p.2) (record { value = ap (λ z. body z (stands c.args.input)) o.is ∙ message_refused o.block o.pair o.coding o.message o.area (stands c.args.input) _ c.in_err-rest-in-Message.ensures.value; within = tt })
 
 -- both parts of a message
-both_skipped : (o : Outline) (block : ℕ) (pair : Pair) (coding m : ℕ) (area : Option ℕ) (p r : Place) (xs : List ℕ) (n : ℕ) (x : Result Cursor TapeFault) → o ≡ Message block pair coding m area → part m p ≡ Ok (xs, r) → n ≡ unwrap_or area 0 → Skipped (part n r) x → Skipped (body o p) x
+both_skipped : (o : (Warning ℕ)) (block : ℕ) (pair : Pair) (coding m : ℕ) (area : Option ℕ) (p r : Place) (xs : List ℕ) (n : ℕ) (x : Result Cursor TapeFault) → o ≡ Message block pair coding m area → part m p ≡ Ok (xs, r) → n ≡ unwrap_or area 0 → Skipped (part n r) x → Skipped (body o p) x
 both_skipped o block pair coding m area p r xs n (Ok c) is e k s =
-    (message block pair coding xs (option_map (λ z. s.0) area), ap (λ z. body z p) is ∙ message_read block pair coding m area p xs s.0 r (stands c) e (ap (λ z. part z r) (sym k) ∙ s.1))
+    (Message block pair coding xs (option_map (λ z. s.0) area), ap (λ z. body z p) is ∙ message_read block pair coding m area p xs s.0 r (stands c) e (ap (λ z. part z r) (sym k) ∙ s.1))
 both_skipped o block pair coding m area p r xs n (Err f) is e k s =
     ap (λ z. body z p) is ∙ area_refused block pair coding m area p xs r f e (ap (λ z. part z r) (sym k) ∙ s)
 

@@ -1,6 +1,6 @@
 use Rattle.std.proofs.Common.{arith}
 use Rattle.std.proofs.lemmas.Bool.{ltb-false, ltb-true, eqb-true, eqb-false}
-use Rattle.warning.specs.Owned.{owned}
+use Rattle.warning.specs.Meaning.{owned}
 use Rattle.tape.proofs.Splits.{agrees_same, entry_none, entry_primary, entry_message, entry_unknown}
 use Rattle.tape.proofs.read.entry.Goals as goal
 

@@ -1,6 +1,6 @@
 use Rattle.std.proofs.Common.{true, sym, refl}
 use Rattle.std.proofs.lemmas.Result.{err_from_is_err_and}
-use Rattle.warning.specs.Owned.{owned}
+use Rattle.warning.specs.Meaning.{owned}
 use Rattle.warning.specs.Rules.{carries_message}
 use Rattle.tape.specs.Cursors.{stands}
 use Rattle.tape.specs.Reading.{octet, pair_operands, message_operands}

@@ -1,6 +1,6 @@
 use Rattle.std.proofs.Common.{leb, sym, refl}
 use Rattle.std.proofs.lemmas.Result.{err_from_is_err_and}
-use Rattle.warning.specs.Owned.{owned}
+use Rattle.warning.specs.Meaning.{owned}
 use Rattle.warning.specs.Rules.{limit}
 use Rattle.tape.specs.Cursors.{stands}
 use Rattle.tape.specs.Reading.{number_to, octet, most_flag, most_area}

@@ -1,6 +1,6 @@
 use Rattle.std.proofs.Common.{leb, sym, refl}
 use Rattle.std.proofs.lemmas.Result.{err_from_is_err_and}
-use Rattle.warning.specs.Owned.{kept, owned}
+use Rattle.warning.specs.Meaning.{kept, owned}
 use Rattle.tape.specs.Cursors.{stands}
 use Rattle.tape.specs.Reading.{pair_operands, number, octet, security_operand, primary_operands}
 use Rattle.tape.proofs.Splits.{from_err, from_ok, agrees_err}

@@ -2,7 +2,7 @@ use Rattle.std.proofs.Common.{◌+◌, map, take, drop, Ok, vec_items, sym, ap, 
 use Rattle.std.proofs.lemmas.List.{take_all}
 use Rattle.std.proofs.lemmas.Result.{err_from_is_err_and}
 use Rattle.warning.specs.Meaning.{said}
-use Rattle.warning.specs.Owned.{owned}
+use Rattle.warning.specs.Meaning.{owned}
 use Rattle.tape.specs.Promises.{written}
 use Rattle.tape.specs.Reading.{read_tape}
 use Rattle.tape.proofs.Lists.{written_push, written_all, item_more, item_split, append_err}

@@ -1,5 +1,5 @@
 use Rattle.std.proofs.Common.{◌≡◌, map, take, Ok, vec_items}
-use Rattle.warning.specs.Owned.{owned}
+use Rattle.warning.specs.Meaning.{owned}
 use Rattle.tape.specs.Promises.{written}
 use Rattle.tape.proofs.write_all.write_all.Given as goal
 
