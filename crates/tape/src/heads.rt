@@ -19,8 +19,7 @@ use crate::read::{entry, most_area, most_flag};
 use octets::put;
 use std::alloc::Global;
 use warning::numbers::*;
-use warning::WarningBuf;
-use warning::{Outline, Pair, octet_limit};
+use warning::{Outline, Pair, WarningBuf, octet_limit};
 
 // A length, if its flag says that the part is there.
 fn flagged_length(flag: u8, length: usize) -> Option<usize>

@@ -10,8 +10,7 @@ use crate::numbers::*;
 use crate::operands::*;
 use std::alloc::Global;
 use warning::numbers::*;
-use warning::WarningBuf;
-use warning::{Pair, octet_limit};
+use warning::{Pair, WarningBuf, octet_limit};
 
 // The octets of one part, gathered from its data commands.
 fn part(heap: Global, input: Cursor<'_>, count: usize) -> Result<(Vec<u8>, Cursor<'_>), ReadError>

@@ -9,8 +9,7 @@ use crate::fault::*;
 use crate::numbers::*;
 use crate::write::write;
 use std::alloc::Global;
-use warning::Warning;
-use warning::WarningBuf;
+use warning::{Warning, WarningBuf};
 
 // Adds one warning to the end of a tape. An error leaves the tape as it was.
 pub fn append(tape: &mut Vec<u8>, w: Warning<&[u8]>) -> Result<(), WriteError>

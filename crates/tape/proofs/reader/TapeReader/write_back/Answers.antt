@@ -1,4 +1,5 @@
-use Rattle.std.proofs.Common.{◌≡◌, List, map, IfOk, Ok, vec_items, subst}
+use Rattle.std.specs.declared.alloc.Global.{Global}
+use Rattle.std.proofs.Common.{Vec, ◌≡◌, ℕ, List, map, IfOk, Ok, vec_items, subst}
 use Rattle.warning.specs.declared.Warning.{Warning}
 use Rattle.warning.specs.Meaning.{owned}
 use Rattle.tape.specs.Promises.{WrittenAs}
