@@ -1,15 +1,11 @@
 // Outlet calls as lines of text, and their answers.
 use outlet::{Outlet, OutletFault};
+use samples::part::PartLength;
+use samples::{AREA_SEED, UNTOUCHED, pattern, weighted_sum};
 use std::alloc::{AllocError, Global};
+use std::fmt;
 use std::str::SplitWhitespace;
-use warning::WarningBuf;
-use warning::{Outline, Pair, Refusal, Values, WarningFault};
-
-// What each octet of a buffer is before a take.
-const UNTOUCHED: u8 = 238;
-
-// How far the seeds of message and area are apart.
-const AREA_SEED: usize = 100;
+use warning::{Outline, Pair, Refusal, WarningBuf, WarningFault};
 
 // A warning by its outline and the seed of its octets.
 #[derive(Clone, Copy)]
@@ -21,7 +17,7 @@ pub struct Sample {
 #[derive(Clone, Copy)]
 pub enum Call {
     Give(Sample),
-    // the length of the buffer
+    // into a buffer of a length
     Take(usize),
     First,
     Free,
@@ -43,101 +39,132 @@ pub enum Answer {
     First(Option<Outline>),
     // the outline, and the sum of the buffer after the call
     Taken(Outline, usize),
+    // the count of octets, and their sum
+    Octets(usize, usize),
+}
+
+// Why a call has no answer.
+#[derive(Drop)]
+pub enum CallError {
     Refused(Refusal),
+    Memory(AllocError),
 }
 
-fn read_number(words: &mut SplitWhitespace<'_>) -> Option<usize> {
-    words.next()?.parse::<usize>().ok()
+impl From<OutletFault> for CallError {
+    fn from(fault: OutletFault) -> CallError {
+        CallError::Refused(fault.into())
+    }
 }
 
-fn read_short(words: &mut SplitWhitespace<'_>) -> Option<u16> {
-    words.next()?.parse::<u16>().ok()
+impl From<WarningFault> for CallError {
+    fn from(fault: WarningFault) -> CallError {
+        CallError::Refused(fault.into())
+    }
 }
 
-fn read_octet(words: &mut SplitWhitespace<'_>) -> Option<u8> {
-    words.next()?.parse::<u8>().ok()
+impl From<AllocError> for CallError {
+    fn from(error: AllocError) -> CallError {
+        CallError::Memory(error)
+    }
 }
 
-// The length of a part, where "-" stands for an absent part.
-fn read_part(words: &mut SplitWhitespace<'_>) -> Option<Option<usize>> {
-    match words.next()? {
-        "-" => Some(None),
-        text => Some(Some(text.parse::<usize>().ok()?)),
+// An outline as the words of a give.
+struct Shown(Outline);
+
+impl fmt::Display for Shown {
+    fn fmt<W: fmt::Write>(&self, f: &mut fmt::Formatter<W>) -> fmt::Result {
+        match self.0 {
+            Outline::Primary {
+                pair: Pair { identifier, serial },
+                warning_type,
+                security,
+            } => {
+                let security = PartLength(security);
+                write!(f, "primary {identifier} {serial} {warning_type} {security}")
+            }
+            Outline::Message {
+                block,
+                pair: Pair { identifier, serial },
+                coding,
+                message,
+                area,
+            } => {
+                let area = PartLength(area);
+                write!(f, "message {block} {identifier} {serial} {coding} {message} {area}")
+            }
+        }
+    }
+}
+
+impl fmt::Display for Answer {
+    fn fmt<W: fmt::Write>(&self, f: &mut fmt::Formatter<W>) -> fmt::Result {
+        match self {
+            Answer::Done => write!(f, "ok"),
+            Answer::Count(count) => write!(f, "ok {count}"),
+            Answer::First(None) => write!(f, "ok -"),
+            Answer::First(Some(outline)) => write!(f, "ok {}", Shown(*outline)),
+            Answer::Taken(outline, sum) => write!(f, "ok {} {sum}", Shown(*outline)),
+            Answer::Octets(count, sum) => write!(f, "ok {count} {sum}"),
+        }
     }
 }
 
 fn read_pair(words: &mut SplitWhitespace<'_>) -> Option<Pair> {
-    let identifier = read_short(words)?;
-    let serial = read_short(words)?;
+    let identifier = words.next()?.parse().ok()?;
+    let serial = words.next()?.parse().ok()?;
     Some(Pair { identifier, serial })
 }
 
-fn read_primary(words: &mut SplitWhitespace<'_>) -> Option<Outline> {
-    let pair = read_pair(words)?;
-    let warning_type = read_short(words)?;
-    let security = read_part(words)?;
-    Some(Outline::Primary {
-        pair,
-        warning_type,
-        security,
-    })
+// The length of a part that may be absent.
+fn read_part(words: &mut SplitWhitespace<'_>) -> Option<Option<usize>> {
+    let PartLength(length) = words.next()?.parse().ok()?;
+    Some(length)
 }
 
-fn read_message(words: &mut SplitWhitespace<'_>) -> Option<Outline> {
-    let block = read_octet(words)?;
-    let pair = read_pair(words)?;
-    let coding = read_octet(words)?;
-    let message = read_number(words)?;
-    let area = read_part(words)?;
-    Some(Outline::Message {
-        block,
-        pair,
-        coding,
-        message,
-        area,
-    })
+fn read_outline(words: &mut SplitWhitespace<'_>) -> Option<Outline> {
+    match words.next()? {
+        "primary" => Some(Outline::Primary {
+            pair: read_pair(words)?,
+            warning_type: words.next()?.parse().ok()?,
+            security: read_part(words)?,
+        }),
+        "message" => Some(Outline::Message {
+            block: words.next()?.parse().ok()?,
+            pair: read_pair(words)?,
+            coding: words.next()?.parse().ok()?,
+            message: words.next()?.parse().ok()?,
+            area: read_part(words)?,
+        }),
+        _ => None,
+    }
 }
 
 // The warning of a give: all of its outline, and a seed.
 fn read_sample(words: &mut SplitWhitespace<'_>) -> Option<Sample> {
-    let outline = match words.next()? {
-        "primary" => read_primary(words)?,
-        "message" => read_message(words)?,
-        _ => return None,
-    };
-    let seed = read_number(words)?;
+    let outline = read_outline(words)?;
+    let seed = words.next()?.parse().ok()?;
     Some(Sample { outline, seed })
-}
-
-fn zero_pair() -> Pair {
-    Pair {
-        identifier: 0,
-        serial: 0,
-    }
-}
-
-fn read_message_shape(words: &mut SplitWhitespace<'_>) -> Option<Outline> {
-    let block = read_octet(words)?;
-    let message = read_number(words)?;
-    let area = read_part(words)?;
-    Some(Outline::Message {
-        block,
-        pair: zero_pair(),
-        coding: 0,
-        message,
-        area,
-    })
 }
 
 // The outline of a cost question: block and lengths are given, the rest is 0.
 fn read_shape(words: &mut SplitWhitespace<'_>) -> Option<Outline> {
+    let pair = Pair {
+        identifier: 0,
+        serial: 0,
+    };
     match words.next()? {
         "primary" => Some(Outline::Primary {
-            pair: zero_pair(),
+            pair,
             warning_type: 0,
             security: read_part(words)?,
         }),
-        "message" => read_message_shape(words),
+        "message" => Some(Outline::Message {
+            block: words.next()?.parse().ok()?,
+            pair,
+            coding: 0,
+            message: words.next()?.parse().ok()?,
+            area: read_part(words)?,
+        }),
         _ => None,
     }
 }
@@ -146,7 +173,7 @@ fn read_shape(words: &mut SplitWhitespace<'_>) -> Option<Outline> {
 fn read_call(name: &str, words: &mut SplitWhitespace<'_>) -> Option<Call> {
     match name {
         "give" => Some(Call::Give(read_sample(words)?)),
-        "take" => Some(Call::Take(read_number(words)?)),
+        "take" => Some(Call::Take(words.next()?.parse().ok()?)),
         "first" => Some(Call::First),
         "free" => Some(Call::Free),
         "cost" => Some(Call::Cost(read_shape(words)?)),
@@ -169,19 +196,6 @@ pub fn read_request(line: &str) -> Option<Request> {
         Some(_) => None,
         None => Some(request),
     }
-}
-
-// Octet i of the pattern with a seed.
-fn octet(seed: usize, i: usize) -> u8 {
-    ((seed % 256 + 7 * (i % 256) + i / 32 % 256) % 256) as u8
-}
-
-fn pattern(heap: Global, seed: usize, count: usize) -> Result<Vec<u8>, AllocError> {
-    let mut octets = Vec::new(heap);
-    for i in 0..count {
-        octets.push(octet(seed, i))?;
-    }
-    Ok(octets)
 }
 
 fn optional_pattern(
@@ -224,117 +238,29 @@ fn make(heap: Global, sample: Sample) -> Result<WarningBuf, AllocError> {
     }
 }
 
-// One number that depends on each octet and its place.
-fn weighted_sum(memory: &[u8]) -> usize {
-    let mut sum = 0usize;
-    for (i, octet) in memory.iter().enumerate() {
-        sum = sum.wrapping_add((i % 251 + 1) * usize::from(*octet));
-    }
-    sum
-}
-
-fn given(r: Result<(), OutletFault>) -> Answer {
-    match r {
-        Ok(()) => Answer::Done,
-        Err(fault) => Answer::Refused(fault.refusal()),
-    }
-}
-
-fn count(r: Result<usize, WarningFault>) -> Answer {
-    match r {
-        Ok(units) => Answer::Count(units),
-        Err(fault) => Answer::Refused(fault.refusal()),
-    }
-}
-
 // Takes into a buffer of a length.
-fn take<O: Outlet>(heap: Global, outlet: &mut O, length: usize) -> Result<Answer, AllocError> {
-    let mut buffer = Vec::new(heap);
-    for _i in 0..length {
-        buffer.push(UNTOUCHED)?;
-    }
-    match outlet.take(buffer.as_mut_slice()) {
-        Ok(outline) => Ok(Answer::Taken(outline, weighted_sum(buffer.as_slice()))),
-        Err(fault) => Ok(Answer::Refused(fault.refusal())),
-    }
+fn take<O: Outlet>(heap: Global, outlet: &mut O, length: usize) -> Result<Answer, CallError> {
+    let mut buffer = vec![in heap; UNTOUCHED; length]?;
+    let outline = outlet.take(buffer.as_mut_slice())?;
+    Ok(Answer::Taken(outline, weighted_sum(buffer.as_slice())))
 }
 
 // Makes a call on an outlet.
-pub fn perform<O: Outlet>(heap: Global, outlet: &mut O, call: Call) -> Result<Answer, AllocError> {
+pub fn perform<O: Outlet>(heap: Global, outlet: &mut O, call: Call) -> Result<Answer, CallError> {
     match call {
         Call::Give(sample) => {
             let warning = make(heap, sample)?;
-            Ok(given(outlet.give(warning.as_warning())))
+            outlet.give(warning.as_warning())?;
+            Ok(Answer::Done)
         }
         Call::Take(length) => take(heap, outlet, length),
         Call::First => Ok(Answer::First(outlet.first())),
         Call::Free => Ok(Answer::Count(outlet.free())),
-        Call::Cost(outline) => Ok(count(outlet.cost(outline))),
+        Call::Cost(outline) => Ok(Answer::Count(outlet.cost(outline)?)),
     }
 }
 
-fn show_part(heap: Global, part: Option<usize>) -> Result<String, AllocError> {
-    match part {
-        Some(length) => format!(in heap; "{length}"),
-        None => format!(in heap; "-"),
-    }
-}
-
-fn show_outline(heap: Global, outline: Outline) -> Result<String, AllocError> {
-    match outline {
-        Outline::Primary {
-            pair,
-            warning_type,
-            security,
-        } => {
-            let Pair { identifier, serial } = pair;
-            let security = show_part(heap, security)?;
-            format!(in heap; "primary {identifier} {serial} {warning_type} {security}")
-        }
-        Outline::Message {
-            block,
-            pair,
-            coding,
-            message,
-            area,
-        } => {
-            let Pair { identifier, serial } = pair;
-            let area = show_part(heap, area)?;
-            format!(in heap; "message {block} {identifier} {serial} {coding} {message} {area}")
-        }
-    }
-}
-
-fn show_refusal(heap: Global, refusal: Refusal) -> Result<String, AllocError> {
-    let number = refusal.number;
-    match refusal.values {
-        Values::Nothing => format!(in heap; "refused {number}"),
-        Values::One(first) => format!(in heap; "refused {number} {first}"),
-        Values::Two(first, second) => format!(in heap; "refused {number} {first} {second}"),
-    }
-}
-
-// The line of an answer.
-pub fn show(heap: Global, answer: Answer) -> Result<String, AllocError> {
-    match answer {
-        Answer::Done => format!(in heap; "ok"),
-        Answer::Count(n) => format!(in heap; "ok {n}"),
-        Answer::First(None) => format!(in heap; "ok -"),
-        Answer::First(Some(outline)) => {
-            let text = show_outline(heap, outline)?;
-            format!(in heap; "ok {text}")
-        }
-        Answer::Taken(outline, sum) => {
-            let text = show_outline(heap, outline)?;
-            format!(in heap; "ok {text} {sum}")
-        }
-        Answer::Refused(refusal) => show_refusal(heap, refusal),
-    }
-}
-
-// The line of octets that are lent.
-pub fn show_octets(heap: Global, octets: &[u8]) -> Result<String, AllocError> {
-    let length = octets.len();
-    let sum = weighted_sum(octets);
-    format!(in heap; "ok {length} {sum}")
+// The answer about octets that are lent.
+pub fn octets_answer(octets: &[u8]) -> Answer {
+    Answer::Octets(octets.len(), weighted_sum(octets))
 }

@@ -4,25 +4,24 @@
 
 use calls::*;
 use rack::Rack;
-use std::alloc::{AllocError, Global};
+use std::alloc::Global;
 use std::io;
 use std::io::{BufRead, BufReader};
 use tape_outlet::TapeOutlet;
 
 mod calls;
 
-// The answer to one line.
+// The answer to one line, if it is well formed.
 fn answer_line(
     heap: Global,
     rack: &mut Rack,
     tape: &mut TapeOutlet,
     line: &str,
-) -> Result<String, AllocError> {
-    match read_request(line) {
-        Some(Request::OnRack(call)) => show(heap, perform(heap, rack, call)?),
-        Some(Request::OnTape(call)) => show(heap, perform(heap, tape, call)?),
-        Some(Request::TapeOctets) => show_octets(heap, tape.tape()),
-        None => format!(in heap; "malformed"),
+) -> Option<Result<Answer, CallError>> {
+    match read_request(line)? {
+        Request::OnRack(call) => Some(perform(heap, rack, call)),
+        Request::OnTape(call) => Some(perform(heap, tape, call)),
+        Request::TapeOctets => Some(Ok(octets_answer(tape.tape()))),
     }
 }
 
@@ -32,8 +31,12 @@ fn main(rt: HostRuntime) -> io::Result<()> {
     let mut tape = TapeOutlet::new();
     for line in BufReader::new(heap, rt.stdin())?.lines(heap) {
         let line = line?;
-        let answer = answer_line(heap, &mut rack, &mut tape, line.as_str())?;
-        println!(rt; "{answer}")?;
+        match answer_line(heap, &mut rack, &mut tape, line.as_str()) {
+            None => rt.println("malformed")?,
+            Some(Ok(answer)) => rt.println(answer)?,
+            Some(Err(CallError::Refused(refusal))) => rt.println(refusal)?,
+            Some(Err(CallError::Memory(error))) => return Err(error.into()),
+        }
     }
     Ok(())
 }

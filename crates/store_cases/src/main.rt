@@ -5,28 +5,26 @@
 use berths::Berths;
 use calls::*;
 use pool::Pool;
-use std::alloc::{AllocError, Global};
+use std::alloc::Global;
 use std::io;
 use std::io::{BufRead, BufReader};
 
 mod calls;
 
-// The answer to one line.
+// The answer to one line, if it is well formed.
 fn answer_line(
     heap: Global,
     berths: &mut Berths,
     pool: &mut Pool,
     line: &str,
-) -> Result<String, AllocError> {
+) -> Option<Result<Answer, CallError>> {
     let mut words = line.split_whitespace();
-    let name = words.next();
-    let Some(call) = read_call(&mut words) else {
-        return format!(in heap; "malformed");
-    };
-    match name {
-        Some("berths") => show(heap, perform(heap, berths, call)?),
-        Some("pool") => show(heap, perform(heap, pool, call)?),
-        _ => format!(in heap; "malformed"),
+    let store = words.next()?;
+    let call = read_call(&mut words)?;
+    match store {
+        "berths" => Some(perform(heap, berths, call)),
+        "pool" => Some(perform(heap, pool, call)),
+        _ => None,
     }
 }
 
@@ -36,8 +34,12 @@ fn main(rt: HostRuntime) -> io::Result<()> {
     let mut pool = Pool::new();
     for line in BufReader::new(heap, rt.stdin())?.lines(heap) {
         let line = line?;
-        let answer = answer_line(heap, &mut berths, &mut pool, line.as_str())?;
-        println!(rt; "{answer}")?;
+        match answer_line(heap, &mut berths, &mut pool, line.as_str()) {
+            None => rt.println("malformed")?,
+            Some(Ok(answer)) => rt.println(answer)?,
+            Some(Err(CallError::Refused(refusal))) => rt.println(refusal)?,
+            Some(Err(CallError::Memory(error))) => return Err(error.into()),
+        }
     }
     Ok(())
 }

@@ -1,0 +1,58 @@
+// Octets for the programs that are compared with the model: patterns to put
+// in, and one number for what came out.
+#![tactic(auto)]
+
+ghost use Rattle.std.specs.Prelude.{◌≡◌, IfOk};
+ghost use Rattle.samples.specs.Samples.{octet_at, pattern, weighted_sum};
+
+pub mod part;
+
+use std::alloc::{AllocError, Global};
+
+// What each octet of a memory is before a call writes there.
+pub const UNTOUCHED: u8 = 238;
+
+// How far the seeds of message and area are apart.
+pub const AREA_SEED: usize = 100;
+
+// Octet i of the pattern with a seed.
+fn octet_at(seed: usize, i: usize) -> u8
+    ensures { result ≡ octet_at seed i }
+{
+    ((seed % 256 + 7 * (i % 256) + i / 32 % 256) % 256) as u8
+}
+
+// The first octets of the pattern with a seed.
+pub fn pattern(heap: Global, seed: usize, count: usize) -> Result<Vec<u8>, AllocError>
+    ensures { IfOk result (λ v. v.items ≡ pattern seed count) }
+{
+    (0..count).map(|i| octet_at(seed, i)).collect(heap)
+}
+
+// One number that depends on each octet and its place.
+pub fn weighted_sum(memory: &[u8]) -> usize
+    ensures { result ≡ weighted_sum memory.now }
+{
+    let mut sum = 0usize;
+    for (i, octet) in memory.iter().enumerate() {
+        sum = sum.wrapping_add((i % 251 + 1) * usize::from(*octet));
+    }
+    sum
+}
+
+#[cfg(test)]
+mod tests {
+    use super::{pattern, weighted_sum};
+
+    #[test]
+    fn octets_of_a_pattern(rt: HostRuntime) {
+        let Ok(octets) = pattern(rt.alloc(), 250, 34) else {
+            assert!(rt; false, "no memory");
+            return;
+        };
+        assert!(rt; octets.as_slice()[0..3] == [250, 1, 8]);
+        assert_eq!(rt; octets.len(), 34);
+        assert_eq!(rt; octets.as_slice()[33], 226);
+        assert_eq!(rt; weighted_sum(&octets.as_slice()[0..3]), 276);
+    }
+}
