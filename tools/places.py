@@ -84,8 +84,15 @@ def point_1():
                 yield path, line_of(text, m.start()), "enum of two: " + m.group(1)
             if any(v.startswith(("Refused", "Failed")) for v in variants) and len(variants) > 2:
                 yield path, line_of(text, m.start()), "an error among answers: " + m.group(1)
-        for m in re.finditer(r"\b(flag|block|number|digits|kind)s?: u8\b", text):
-            yield path, line_of(text, m.start()), "number for a kind: " + m.group(0)
+        for m in re.finditer(r"\bflag: u8\b", text):
+            yield path, line_of(text, m.start()), "a flag as a number, with a value beside it"
+        for m in re.finditer(r"\b(?:enum|struct) (\w+)(<[^{]*>)? \{", text):
+            inside = block(text, m.start())
+            fields = re.findall(r"\b(block|digits|kind): u8\b", inside)
+            if "values: Values" in inside:
+                fields += ["number"]
+            for field in fields:
+                yield path, line_of(text, m.start()), f"a number for a kind: {m.group(1)}.{field}"
 
 
 def point_2():

@@ -69,6 +69,7 @@ impl From<AllocError> for CallError {
 }
 
 // An outline as the words of a give.
+#[derive(Clone, Copy)]
 struct Shown(Outline);
 
 impl fmt::Display for Shown {
@@ -90,7 +91,10 @@ impl fmt::Display for Shown {
                 area,
             } => {
                 let area = PartLength(area);
-                write!(f, "message {block} {identifier} {serial} {coding} {message} {area}")
+                write!(
+                    f,
+                    "message {block} {identifier} {serial} {coding} {message} {area}"
+                )
             }
         }
     }
