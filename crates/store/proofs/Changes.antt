@@ -4,7 +4,7 @@ use mathlib.Core.Path.{fun_ext}
 use Rattle.std.proofs.lemmas.Bool.{cases_eq, cases_lt, eq-eqb, ne_eqb, lt-ltb, le-ltb, le-leb, lt-leb, true≢false, and_right}
 use Rattle.std.proofs.lemmas.Bool.Decides.{nat_tests}
 use Rattle.store.specs.declared.StoreFault.{StoreFault}
-use Rattle.store.specs.Meaning.{Segment, Held, Shape, Placed, replaced, without_slot, nothing}
+use Rattle.store.specs.Meaning.{Content, Held, Shape, Placed, replaced, without_slot, nothing}
 use Rattle.store.specs.Outcomes.{drop_outcome}
 use Rattle.store.specs.Numbers.{number_count}
 use Rattle.store.specs.Trials.{Empty}
@@ -14,11 +14,11 @@ none_if None e = refl
 none_if (Some x) e = absurd (true≢false e)
 
 -- nothing stands past the last slot or the last number
-pub no_slot : (shape : Shape) (slot number : ℕ) (o : Option Segment) → Placed shape slot number o → shape.slots ≤ slot → o ≡ None
+pub no_slot : (shape : Shape) (slot number : ℕ) (o : Option Content) → Placed shape slot number o → shape.slots ≤ slot → o ≡ None
 no_slot shape slot number None p h = refl
 no_slot shape slot number (Some seg) p h = absurd (omega (arith, p.0))
 
-pub no_number : (shape : Shape) (slot number : ℕ) (o : Option Segment) → Placed shape slot number o → number_count ≤ number → o ≡ None
+pub no_number : (shape : Shape) (slot number : ℕ) (o : Option Content) → Placed shape slot number o → number_count ≤ number → o ≡ None
 no_number shape slot number None p h = refl
 no_number shape slot number (Some seg) p h = absurd (omega (arith, p.1))
 
@@ -89,7 +89,7 @@ slots_all shape h placed = fun_ext (λ s. fun_ext (λ k. ⊎_elim
     (λ (l : shape.slots ≤ s). let n : h s k ≡ None = no_slot shape s k (h s k) (placed s k) l in rw n (cond_none (ltb s shape.slots)))
     (cases_lt s shape.slots)))
 
-pub replaced-same : (h : Held) (slot number : ℕ) (o : Option Segment) → h slot number ≡ o → h ≡ replaced h slot number o
+pub replaced-same : (h : Held) (slot number : ℕ) (o : Option Content) → h slot number ≡ o → h ≡ replaced h slot number o
 replaced-same h slot number o e = fun_ext (λ s. fun_ext (λ n. ⊎_elim
     (λ (p : s ≡ slot). ⊎_elim
     (λ (q : n ≡ number).

@@ -3,7 +3,7 @@ use Rattle.std.proofs.Common.{◌≡◌, ℕ, ◌<◌, ◌≤◌, Bool, true, fa
 use Rattle.std.proofs.lemmas.Bool.{cases_lt, le-leb, lt-leb, le-ltb, lt-ltb}
 use Rattle.store.specs.declared.StoreFault.{StoreFault}
 use Rattle.store.specs.declared.StoreFault.TheVariants.{NoSlot, NoNumber, Occupied, NotHeld, NoUnits, Memory}
-use Rattle.store.specs.Meaning.{Shape, Held, Segment, count, units_free}
+use Rattle.store.specs.Meaning.{Shape, Held, Content, count, units_free}
 use Rattle.store.specs.Outcomes.{at_place, not_too_long, where_held, judged_place, index, put_outcome, held_outcome, copy_outcome}
 use Rattle.store.specs.Numbers.{number_count, most_octets}
 
@@ -44,7 +44,7 @@ at_there shape slot number i next t =
     rw (a, b)
 
 -- the answers of a put at such a place
-module _ (shape : Shape) (h : Held) (slot number i : ℕ) (seg : Segment) (t : There shape.slots slot number i) (short : count seg ≤ most_octets) where
+module _ (shape : Shape) (h : Held) (slot number i : ℕ) (seg : Content) (t : There shape.slots slot number i) (short : count seg ≤ most_octets) where
   shortly : {X : Type 0} (next : Result X StoreFault) → next ≡ at_place shape slot number (not_too_long (count seg) next)
   shortly next = let a : ltb most_octets (count seg) ≡ false = le-ltb _ _ short in rw a (at_there shape slot number i next t)
 
@@ -59,22 +59,22 @@ module _ (shape : Shape) (h : Held) (slot number i : ℕ) (seg : Segment) (t : T
 
 -- the answers of the questions at such a place
 module _ (shape : Shape) (h : Held) (slot number i : ℕ) (t : There shape.slots slot number i) where
-  pub not_held : {X : Type 0} (next : Segment → Result X StoreFault) → h slot number ≡ None → Err NotHeld ≡ at_place shape slot number (where_held (h slot number) next)
+  pub not_held : {X : Type 0} (next : Content → Result X StoreFault) → h slot number ≡ None → Err NotHeld ≡ at_place shape slot number (where_held (h slot number) next)
   not_held next e = rw e (at_there shape slot number i (Err NotHeld) t)
 
-  pub of_held : {X : Type 0} (next : Segment → Result X StoreFault) (seg : Segment) (r : Result X StoreFault) → h slot number ≡ Some seg → r ≡ next seg → r ≡ at_place shape slot number (where_held (h slot number) next)
+  pub of_held : {X : Type 0} (next : Content → Result X StoreFault) (seg : Content) (r : Result X StoreFault) → h slot number ≡ Some seg → r ≡ next seg → r ≡ at_place shape slot number (where_held (h slot number) next)
   of_held next seg r e f = rw e (f ∙ at_there shape slot number i (next seg) t)
 
   pub held_told : (b : Bool) → b ≡ is_some (h slot number) → Ok b ≡ held_outcome shape h slot number
   held_told b e = ap Ok e ∙ at_there shape slot number i (Ok (is_some (h slot number))) t
 
   -- copying out of a segment of the count n into a memory
-  pub copy_short : (seg : Segment) (n m : ℕ) → h slot number ≡ Some seg → n ≡ count seg → m < n → Err (Memory m) ≡ copy_outcome shape h slot number m
+  pub copy_short : (seg : Content) (n m : ℕ) → h slot number ≡ Some seg → n ≡ count seg → m < n → Err (Memory m) ≡ copy_outcome shape h slot number m
   copy_short seg n m e c low =
       let a : ltb m (count seg) ≡ true = lt-ltb _ _ (omega arith) in
       of_held (λ s. cond (ltb m (count s)) (Err (Memory m)) (Ok tt)) seg (Err (Memory m)) e (rw a)
 
-  pub copy_done : (seg : Segment) (n m : ℕ) → h slot number ≡ Some seg → n ≡ count seg → n ≤ m → Ok tt ≡ copy_outcome shape h slot number m
+  pub copy_done : (seg : Content) (n m : ℕ) → h slot number ≡ Some seg → n ≡ count seg → n ≤ m → Ok tt ≡ copy_outcome shape h slot number m
   copy_done seg n m e c low =
       let a : ltb m (count seg) ≡ false = le-ltb _ _ (omega arith) in
       of_held (λ s. cond (ltb m (count s)) (Err (Memory m)) (Ok tt)) seg (Ok tt) e (rw a)

@@ -2,7 +2,7 @@
 use Rattle.std.proofs.Common.{◌≡◌, ℕ, zero, suc, ◌+◌, ◌*◌, ◌<◌, ◌≤◌, true, eqb, List, length, get_or, set, Option, sym, refl, ap, ◌∙◌, ⊎_elim, suc-mul, arith}
 use Rattle.std.proofs.lemmas.List.{get_or-set_same, get_or-set_other, length-set}
 use Rattle.std.proofs.lemmas.Bool.{cases_eq, eq-eqb, ne_eqb}
-use Rattle.store.specs.Meaning.{Segment, Held, Shape, paid, sum_below, slot_units, units, replaced, nothing, Counted}
+use Rattle.store.specs.Meaning.{Content, Held, Shape, paid, sum_below, slot_units, units, replaced, nothing, Counted}
 use Rattle.store.specs.Numbers.{number_count}
 
 pub sum_same : (f g : ℕ → ℕ) (n : ℕ) → ((k : ℕ) → k < n → g k ≡ f k) → sum_below g n ≡ sum_below f n
@@ -53,7 +53,7 @@ sum_change f g (suc n) i h same =
     (cases_eq i n)
 
 -- one place holds something else
-module _ (cost : ℕ → ℕ) (h : Held) (slot number : ℕ) (new : Option Segment) where
+module _ (cost : ℕ → ℕ) (h : Held) (slot number : ℕ) (new : Option Content) where
   pub here_replaced : replaced h slot number new slot number ≡ new
   here_replaced =
       let a : eqb slot slot ≡ true = eq-eqb slot slot refl in
@@ -69,7 +69,7 @@ module _ (cost : ℕ → ℕ) (h : Held) (slot number : ℕ) (new : Option Segme
   pub other_replaced : (s : ℕ) → (s ≡ slot → ⊥) → slot_units cost (replaced h slot number new) s ≡ slot_units cost h s
   other_replaced s d = let ne = ne_eqb s slot d in sum_same (λ n. paid cost (h s n)) (λ n. paid cost (replaced h slot number new s n)) number_count (λ n m. rw ne)
 
-pub units-replaced : (shape : Shape) (h : Held) (slot number : ℕ) (new : Option Segment) → slot < shape.slots → number < number_count → units shape (replaced h slot number new) + paid shape.cost (h slot number) ≡ units shape h + paid shape.cost new
+pub units-replaced : (shape : Shape) (h : Held) (slot number : ℕ) (new : Option Content) → slot < shape.slots → number < number_count → units shape (replaced h slot number new) + paid shape.cost (h slot number) ≡ units shape h + paid shape.cost new
 units-replaced shape h slot number new within few =
     let cost = shape.cost in
     let h' = replaced h slot number new in
@@ -85,7 +85,7 @@ pub units-nothing : (shape : Shape) → units shape nothing ≡ 0
 units-nothing shape = sum_same (λ _. 0) (slot_units shape.cost nothing) shape.slots (λ s _. slot_nothing shape.cost s) ∙ sum_none shape.slots
 
 -- counts stay right where one place changes
-pub counted_replaced : (cost : ℕ → ℕ) (h : Held) (slot number : ℕ) (new : Option Segment) (used : List ℕ) (n : ℕ) → slot < length used → number < number_count → Counted cost h used → n + paid cost (h slot number) ≡ get_or used slot 0 + paid cost new → Counted cost (replaced h slot number new) (set used slot n)
+pub counted_replaced : (cost : ℕ → ℕ) (h : Held) (slot number : ℕ) (new : Option Content) (used : List ℕ) (n : ℕ) → slot < length used → number < number_count → Counted cost h used → n + paid cost (h slot number) ≡ get_or used slot 0 + paid cost new → Counted cost (replaced h slot number new) (set used slot n)
 counted_replaced cost h slot number new used n low few c e s within =
     ⊎_elim
     (λ (q : s ≡ slot).

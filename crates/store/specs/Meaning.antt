@@ -1,46 +1,46 @@
 -- What a store means: the segments that it holds, by slot and number, and its shape.
 use Rattle.std.specs.Prelude.{◌≡◌, ℕ, zero, suc, ◌+◌, ◌-◌, ◌*◌, ◌<◌, ◌≤◌, Bool, true, false, cond, ◌&&◌, List, [], ◌++◌, length, take, drop, Some, None, Option, ◌==◌, slice_index}
-use Rattle.std.specs.Borrow.{Bor}
 use Rattle.std.specs.Option.{option_map, unwrap_or}
 use Rattle.std.specs.Str.{bytes_eq}
 use Rattle.octets.specs.Octets.{written}
 use Rattle.warning.specs.Meaning.{lent}
 use Rattle.store.specs.declared.Lengths.{Lengths}
+use Rattle.store.specs.declared.Segment.{Segment}
 use Rattle.store.specs.Numbers.{number_count, most_octets}
 
--- message octets, and area octets that may be absent
-pub record Segment : Type 0 where
+-- what a segment is: message octets, and area octets that may be absent
+pub record Content : Type 0 where
   pub message : List ℕ
   pub area : Option (List ℕ)
 
--- the segment that borrowed octets make
-abbrev pub segment : List ℕ → Option (Bor (List ℕ)) → Segment
-segment message area = record { message = message; area = lent area }
+-- what a segment of the code is, whoever lends its octets
+abbrev pub content : Segment → Content
+content segment = record { message = segment.message.now; area = lent segment.area }
 
 -- an absent area has no octets
 abbrev pub area_octets : Option (List ℕ) → List ℕ
 area_octets area = unwrap_or area []
 
 -- the octets of a segment: the message, then the area
-abbrev pub octets : Segment → List ℕ
+abbrev pub octets : Content → List ℕ
 octets seg = seg.message ++ area_octets seg.area
 
-abbrev pub lengths_of : Segment → Lengths
+abbrev pub lengths_of : Content → Lengths
 lengths_of seg = record { message = length seg.message; area = option_map length seg.area }
 
 -- message and area octets together
 abbrev pub count_of : Lengths → ℕ
 count_of l = l.message + unwrap_or l.area 0
 
-abbrev pub count : Segment → ℕ
+abbrev pub count : Content → ℕ
 count seg = count_of (lengths_of seg)
 
 -- the segment of these lengths that stands at the start of the octets
-abbrev pub standing : Lengths → List ℕ → Segment
+abbrev pub standing : Lengths → List ℕ → Content
 standing l octets = record { message = take l.message octets; area = option_map (λ a. take a (drop l.message octets)) l.area }
 
 -- memory with the message at its start and the area after it
-abbrev pub spread : Segment → List ℕ → List ℕ
+abbrev pub spread : Content → List ℕ → List ℕ
 spread seg memory = written (length seg.message) (area_octets seg.area) (written 0 seg.message memory)
 
 -- whether two segments are equal: absent and empty areas differ
@@ -50,21 +50,21 @@ same_area None (Some b) = false
 same_area (Some a) None = false
 same_area (Some a) (Some b) = bytes_eq a b
 
-abbrev pub same : Segment → Segment → Bool
+abbrev pub same : Content → Content → Bool
 same x y = bytes_eq x.message y.message && same_area x.area y.area
 
 -- the segments held, by slot and number
 abbrev pub Held : Type 0
-Held = ℕ → ℕ → Option Segment
+Held = ℕ → ℕ → Option Content
 
 abbrev pub nothing : Held
 nothing slot number = None
 
 -- one place holds something else, all others hold what they held
-abbrev pub replaced : Held → ℕ → ℕ → Option Segment → Held
+abbrev pub replaced : Held → ℕ → ℕ → Option Content → Held
 replaced h slot number new s n = cond (s == slot && n == number) new (h s n)
 
-abbrev pub with_segment : Held → ℕ → ℕ → Segment → Held
+abbrev pub with_segment : Held → ℕ → ℕ → Content → Held
 with_segment h slot number seg = replaced h slot number (Some seg)
 
 abbrev pub without_slot : Held → ℕ → Held
@@ -85,12 +85,12 @@ pub record Lawful (shape : Shape) : Type 0 where
   pub roomy : number_count * shape.cost most_octets ≤ shape.total
 
 -- what may stand at a place: nothing, or in a slot that there is a segment that is not too long
-abbrev pub Placed : Shape → ℕ → ℕ → Option Segment → Type 0
+abbrev pub Placed : Shape → ℕ → ℕ → Option Content → Type 0
 Placed shape slot number None = Unit {0}
 Placed shape slot number (Some seg) = (slot < shape.slots) × (number < number_count) × (count seg ≤ most_octets)
 
 -- the units of what stands at a place
-abbrev pub paid : (ℕ → ℕ) → Option Segment → ℕ
+abbrev pub paid : (ℕ → ℕ) → Option Content → ℕ
 paid cost None = 0
 paid cost (Some seg) = cost (count seg)
 

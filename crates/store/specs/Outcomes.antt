@@ -4,7 +4,7 @@ use Rattle.octets.specs.Octets.{written}
 use Rattle.store.specs.declared.Lengths.{Lengths}
 use Rattle.store.specs.declared.StoreFault.{StoreFault}
 use Rattle.store.specs.declared.StoreFault.TheVariants.{NoSlot, NoNumber, TooLong, Occupied, NotHeld, NoUnits, Memory}
-use Rattle.store.specs.Meaning.{Segment, Held, Shape, octets, count, same, lengths_of, slot_units, units_free}
+use Rattle.store.specs.Meaning.{Content, Held, Shape, octets, count, same, lengths_of, slot_units, units_free}
 use Rattle.store.specs.Numbers.{number_count, most_octets}
 
 -- a slot that the store lacks is refused first, then a number that no segment has
@@ -19,11 +19,11 @@ abbrev pub not_too_long : {X : Type 0} → ℕ → Result X StoreFault → Resul
 not_too_long n next = cond (nat_lt most_octets n) (Err (TooLong n)) next
 
 -- a segment that is not held is refused
-abbrev pub where_held : {X : Type 0} → Option Segment → (Segment → Result X StoreFault) → Result X StoreFault
+abbrev pub where_held : {X : Type 0} → Option Content → (Content → Result X StoreFault) → Result X StoreFault
 where_held None next = Err NotHeld
 where_held (Some seg) next = next seg
 
-abbrev pub put_outcome : Shape → Held → ℕ → ℕ → Segment → Result (Unit {0}) StoreFault
+abbrev pub put_outcome : Shape → Held → ℕ → ℕ → Content → Result (Unit {0}) StoreFault
 put_outcome shape h slot number seg =
     at_place shape slot number
     (not_too_long (count seg)
@@ -46,7 +46,7 @@ held_outcome shape h slot number = at_place shape slot number (Ok (is_some (h sl
 abbrev pub lengths_outcome : Shape → Held → ℕ → ℕ → Result Lengths StoreFault
 lengths_outcome shape h slot number = at_place shape slot number (where_held (h slot number) (λ seg. Ok (lengths_of seg)))
 
-abbrev pub equals_outcome : Shape → Held → ℕ → ℕ → Segment → Result Bool StoreFault
+abbrev pub equals_outcome : Shape → Held → ℕ → ℕ → Content → Result Bool StoreFault
 equals_outcome shape h slot number given = at_place shape slot number (where_held (h slot number) (λ seg. Ok (same seg given)))
 
 -- copying out into a memory of n octets
@@ -55,13 +55,26 @@ copy_outcome shape h slot number n =
     at_place shape slot number (where_held (h slot number) (λ seg. cond (nat_lt n (count seg)) (Err (Memory n)) (Ok tt)))
 
 -- the memory with a segment at its start: the message, then the area
-abbrev pub copied : Option Segment → List ℕ → List ℕ
+abbrev pub copied : Option Content → List ℕ → List ℕ
 copied None memory = memory
 copied (Some seg) memory = written 0 (octets seg) memory
 
 -- the index of a place: 64 places to a slot
 abbrev pub index : ℕ → ℕ → ℕ
 index slot number = slot * number_count + number
+
+-- a check of one rule alone
+abbrev pub judged_slot : ℕ → ℕ → Result (Unit {0}) StoreFault
+judged_slot slots slot = cond (nat_le slots slot) (Err (NoSlot slot)) (Ok tt)
+
+abbrev pub judged_octets : ℕ → Result (Unit {0}) StoreFault
+judged_octets n = not_too_long n (Ok tt)
+
+abbrev pub judged_vacant : Bool → Result (Unit {0}) StoreFault
+judged_vacant held = cond held (Err Occupied) (Ok tt)
+
+abbrev pub judged_memory : ℕ → ℕ → Result (Unit {0}) StoreFault
+judged_memory n octets = cond (nat_lt n octets) (Err (Memory n)) (Ok tt)
 
 abbrev pub judged_place : ℕ → ℕ → ℕ → Result ℕ StoreFault
 judged_place slots slot number =

@@ -2,12 +2,13 @@
 #![tactic(auto)]
 
 ghost use Rattle.std.specs.Prelude.{◌≡◌, ℕ, ◌≤◌, length, is_ok, if◌then◌else◌};
-ghost use Rattle.store.specs.Meaning.{Held, Shape, Lawful, Placed, nothing, segment, units, with_segment, without_slot};
+ghost use Rattle.store.specs.Meaning.{Held, Shape, Lawful, Placed, nothing, content, units, with_segment, without_slot};
 ghost use Rattle.store.specs.Outcomes.{put_outcome, drop_outcome, cost_outcome, units_outcome, held_outcome, lengths_outcome, equals_outcome, copy_outcome, copied};
 ghost use Rattle.store.specs.Refusals.{of_store};
 
 use warning::{Refusal, Values};
 
+pub mod checks;
 pub mod numbers;
 pub mod segments;
 pub mod trial;
@@ -31,11 +32,11 @@ pub enum StoreFault {
     Memory(usize),
 }
 
-impl StoreFault {
-    pub fn refusal(self) -> Refusal
-        ensures { result ≡ of_store self }
-    {
-        let (number, values) = match self {
+impl From<StoreFault> for Refusal {
+    ghost from_gives = { λ f r. r ≡ of_store f };
+
+    fn from(fault: StoreFault) -> Refusal {
+        let (number, values) = match fault {
             StoreFault::NoSlot(slot) => (4, Values::One(slot)),
             StoreFault::NoNumber(number) => (4, Values::One(usize::from(number))),
             StoreFault::TooLong(count) => (7, Values::One(count)),
@@ -46,6 +47,20 @@ impl StoreFault {
         };
         Refusal { number, values }
     }
+}
+
+// Where a segment is held.
+#[derive(Clone, Copy, PartialEq, Eq, Debug)]
+pub struct Place {
+    pub slot: usize,
+    pub number: u8,
+}
+
+// A segment whose octets are borrowed: the message, and the area where there is one.
+#[derive(Clone, Copy, PartialEq, Eq, Debug)]
+pub struct Segment<'a> {
+    pub message: &'a [u8],
+    pub area: Option<&'a [u8]>,
 }
 
 // The lengths of a segment: of the message, and of the area where there is one.
@@ -64,15 +79,9 @@ pub trait Store {
     ghost shape: { Self → Shape };
 
     // Puts a segment where none is held.
-    fn put(
-        &mut self,
-        slot: usize,
-        number: u8,
-        message: &[u8],
-        area: Option<&[u8]>,
-    ) -> Result<(), StoreFault>
-        ensures value { result ≡ put_outcome (shape self.old) (held self.old) slot number (segment message.now area.entry) }
-        ensures after { held self.new ≡ (if is_ok result then with_segment (held self.old) slot number (segment message.now area.entry) else held self.old) }
+    fn put(&mut self, place: Place, segment: Segment<'_>) -> Result<(), StoreFault>
+        ensures value { result ≡ put_outcome (shape self.old) (held self.old) place.slot place.number (content segment.entry) }
+        ensures after { held self.new ≡ (if is_ok result then with_segment (held self.old) place.slot place.number (content segment.entry) else held self.old) }
         ensures same { shape self.new ≡ shape self.old };
 
     // Lets go of what a slot holds.
@@ -107,28 +116,22 @@ pub trait Store {
         ensures { result ≡ units_outcome (shape self.now) (held self.now) slot };
 
     // Whether a segment is held.
-    fn is_held(&self, slot: usize, number: u8) -> Result<bool, StoreFault>
-        ensures { result ≡ held_outcome (shape self.now) (held self.now) slot number };
+    fn is_held(&self, place: Place) -> Result<bool, StoreFault>
+        ensures { result ≡ held_outcome (shape self.now) (held self.now) place.slot place.number };
 
     // The lengths of a segment that is held.
-    fn lengths(&self, slot: usize, number: u8) -> Result<Lengths, StoreFault>
-        ensures { result ≡ lengths_outcome (shape self.now) (held self.now) slot number };
+    fn lengths(&self, place: Place) -> Result<Lengths, StoreFault>
+        ensures { result ≡ lengths_outcome (shape self.now) (held self.now) place.slot place.number };
 
     // Whether a segment that is held equals the given one.
-    fn equals(
-        &self,
-        slot: usize,
-        number: u8,
-        message: &[u8],
-        area: Option<&[u8]>,
-    ) -> Result<bool, StoreFault>
-        ensures { result ≡ equals_outcome (shape self.now) (held self.now) slot number (segment message.now area.entry) };
+    fn equals(&self, place: Place, segment: Segment<'_>) -> Result<bool, StoreFault>
+        ensures { result ≡ equals_outcome (shape self.now) (held self.now) place.slot place.number (content segment.entry) };
 
     // Copies a segment that is held to the start of the memory, the message
     // and then the area. The rest of the memory stays as it was.
-    fn copy_out(&self, slot: usize, number: u8, memory: &mut [u8]) -> Result<(), StoreFault>
-        ensures value { result ≡ copy_outcome (shape self.now) (held self.now) slot number (length memory.old) }
-        ensures after { memory.new ≡ (if is_ok result then copied (held self.now slot number) memory.old else memory.old) };
+    fn copy_out(&self, place: Place, memory: &mut [u8]) -> Result<(), StoreFault>
+        ensures value { result ≡ copy_outcome (shape self.now) (held self.now) place.slot place.number (length memory.old) }
+        ensures after { memory.new ≡ (if is_ok result then copied (held self.now place.slot place.number) memory.old else memory.old) };
 
     // The laws, which each type with this trait proves.
     ghost lawful: { (s : Self) → Lawful (shape s) };
