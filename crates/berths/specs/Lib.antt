@@ -1,4 +1,4 @@
 pub mod Numbers
 pub mod Berthed
 pub mod Holding
-pub mod Laying
+pub mod Laws

@@ -1,78 +1,47 @@
 // The calls of the berths.
-ghost use Rattle.std.specs.Prelude.{◌≡◌, ℕ, ◌<◌, ◌≤◌, is_some, if◌then◌else◌, None, Ok, Err};
-ghost use Rattle.store.specs.declared.StoreFault.TheVariants.{Occupied};
-ghost use Rattle.store.specs.Meaning.{nothing, count, segment, replaced, without_slot};
-ghost use Rattle.store.specs.Numbers.{number_count, most_octets};
-ghost use Rattle.berths.specs.Numbers.{slot_count, berth_count, berths_shape};
-ghost use Rattle.berths.specs.Berthed.{berth, laid, held_in};
+ghost use Rattle.std.specs.Prelude.{◌≡◌, ◌<◌, Ok};
+ghost use Rattle.std.specs.List.{count_by};
+ghost use Rattle.std.specs.Option.{option_map};
+ghost use Rattle.std.specs.Result.{result_map_both};
+ghost use Rattle.store.specs.Meaning.{content, nothing, slot_units, without_slot};
+ghost use Rattle.store.specs.Outcomes.{at_place, look_up};
+ghost use Rattle.berths.specs.Numbers.{berths_shape, one, slot_count};
+ghost use Rattle.berths.specs.Berthed.{held_in, taken};
 ghost use Rattle.berths.specs.Holding.{holding};
-ghost use Rattle.berths.specs.Laying;
-ghost use Rattle.berths.specs.Laying.{units_most, all_placed};
+ghost use Rattle.berths.specs.Laws;
+ghost use Rattle.berths.specs.Laws.{units_most, all_placed};
 
+use crate::Berths;
+use crate::berth::Berth;
 use crate::numbers::*;
-use crate::{Berth, Berths};
-use octets::put;
+use store::checks::{check_memory, check_octets, check_slot, check_vacant};
 use store::numbers::*;
-use store::segments::{judge_place, octet_count, write};
-use store::{Lengths, Store, StoreFault};
-
-impl Berth {
-    // Lays a segment here.
-    fn lay(&mut self, message: &[u8], area: Option<&[u8]>)
-        requires { count (segment message.now area) ≤ most_octets }
-        ensures { self.new ≡ laid (segment message.now area.entry) self.old }
-    {
-        write(&mut self.octets, message, area);
-        self.lengths = Some(Lengths::of(message, area));
-    }
-}
+use store::{Lengths, Place, Segment, Store, StoreFault};
 
 impl Berths {
     // Berths that hold nothing.
     pub fn new() -> Berths
         ensures { holding result ≡ nothing }
     {
-        let berth = Berth {
-            lengths: None,
-            octets: [0; BERTH_OCTETS],
-        };
+        let vacant = Berth::vacant();
         Berths {
-            berths: [berth; BERTHS],
-            used: [0; SLOTS],
+            berths: [vacant; BERTHS],
         }
     }
 
-    // The lengths of the segment in a berth, if there is one.
-    fn lengths_at(&self, i: usize) -> Option<Lengths>
-        requires { i < berth_count }
-        ensures { result ≡ (berth self.now.berths i).lengths }
+    // The segment that is held at a place, if there is one.
+    fn find(&self, place: Place) -> Result<Option<Segment<'_>>, StoreFault>
+        ensures { result_map_both (option_map content) (λ f. f) result ≡ at_place berths_shape place.slot place.number (Ok (holding self.now place.slot place.number)) }
     {
-        let all = &self.berths;
-        all[i].lengths
+        let i = place.index(SLOTS)?;
+        Ok(self.berths[i].segment())
     }
 
-    // Refuses a berth that holds a segment.
-    fn check_vacant(&self, i: usize) -> Result<(), StoreFault>
-        requires { i < berth_count }
-        ensures { result ≡ (if is_some (berth self.now.berths i).lengths then Err Occupied else Ok tt) }
+    // The segment that is held at a place, where none is refused.
+    fn look_up(&self, place: Place) -> Result<Segment<'_>, StoreFault>
+        ensures { result_map_both content (λ f. f) result ≡ look_up berths_shape (holding self.now) place.slot place.number }
     {
-        if self.lengths_at(i).is_some() {
-            return Err(StoreFault::Occupied);
-        }
-        Ok(())
-    }
-
-    // Lets go of what one berth holds.
-    fn release(&mut self, slot: usize, number: usize)
-        requires low { slot < slot_count }
-        requires few { number < number_count }
-        ensures { holding self.new ≡ replaced (holding self.old) slot number None }
-    {
-        let i = slot * NUMBERS + number;
-        if self.lengths_at(i).is_some() {
-            self.berths[i].lengths = None;
-            self.used[slot] -= 1;
-        }
+        self.find(place)?.ok_or(StoreFault::NotHeld)
     }
 
     // Lets go of what a slot holds.
@@ -80,10 +49,25 @@ impl Berths {
         requires { slot < slot_count }
         ensures { holding self.new ≡ without_slot (holding self.old) slot }
     {
-        for number in 0..NUMBERS {
-            self.release(slot, number);
-        }
+        let first = slot * NUMBERS;
+        self.berths[first..first + NUMBERS].fill(Berth::vacant());
     }
+
+    // How many segments a slot holds.
+    fn count(&self, slot: usize) -> usize
+        requires { slot < slot_count }
+        ensures { result ≡ slot_units one (holding self.now) slot }
+    {
+        let first = slot * NUMBERS;
+        count_taken(&self.berths[first..first + NUMBERS])
+    }
+}
+
+// How many berths hold a segment.
+fn count_taken(berths: &[Berth]) -> usize
+    ensures { result ≡ count_by taken berths.now }
+{
+    berths.iter().filter(|berth| berth.is_taken()).count()
 }
 
 impl Store for Berths {
@@ -91,43 +75,29 @@ impl Store for Berths {
 
     ghost shape = { λ _. berths_shape };
 
-    ghost lawful = { λ s. Laying.lawful };
+    ghost lawful = { λ s. Laws.lawful };
 
     ghost within = { λ s. units_most (held_in s.berths) };
 
-    ghost placed = { λ s slot number. all_placed s.berths s.all s.long s.fitting slot number };
+    ghost placed = { λ s slot number. all_placed s.berths slot number };
 
-    fn put(
-        &mut self,
-        slot: usize,
-        number: u8,
-        message: &[u8],
-        area: Option<&[u8]>,
-    ) -> Result<(), StoreFault> {
-        let i = judge_place(SLOTS, slot, number)?;
-        let count = octet_count(message, area);
-        if count > MOST_OCTETS {
-            return Err(StoreFault::TooLong(count));
-        }
-        self.check_vacant(i)?;
+    fn put(&mut self, place: Place, segment: Segment<'_>) -> Result<(), StoreFault> {
+        let i = place.index(SLOTS)?;
+        check_octets(segment.octet_count())?;
+        check_vacant(self.berths[i].is_taken())?;
         // a berth is a unit, so one is free
-        self.berths[i].lay(message, area);
-        self.used[slot] += 1;
+        self.berths[i].lay(segment);
         Ok(())
     }
 
     fn drop_slot(&mut self, slot: usize) -> Result<(), StoreFault> {
-        if slot >= SLOTS {
-            return Err(StoreFault::NoSlot(slot));
-        }
+        check_slot(SLOTS, slot)?;
         self.clear(slot);
         Ok(())
     }
 
     fn drop_all(&mut self) {
-        for slot in 0..SLOTS {
-            self.clear(slot);
-        }
+        self.berths.fill(Berth::vacant());
     }
 
     fn slots(&self) -> usize {
@@ -139,61 +109,35 @@ impl Store for Berths {
     }
 
     fn cost(&self, octets: usize) -> Result<usize, StoreFault> {
-        if octets > MOST_OCTETS {
-            return Err(StoreFault::TooLong(octets));
-        }
+        check_octets(octets)?;
         Ok(1)
     }
 
     fn units_held(&self) -> usize {
-        self.used[0] + self.used[1] + self.used[2]
+        count_taken(&self.berths)
     }
 
     fn units_of(&self, slot: usize) -> Result<usize, StoreFault> {
-        if slot >= SLOTS {
-            return Err(StoreFault::NoSlot(slot));
-        }
-        Ok(self.used[slot])
+        check_slot(SLOTS, slot)?;
+        Ok(self.count(slot))
     }
 
-    fn is_held(&self, slot: usize, number: u8) -> Result<bool, StoreFault> {
-        let i = judge_place(SLOTS, slot, number)?;
-        Ok(self.lengths_at(i).is_some())
+    fn is_held(&self, place: Place) -> Result<bool, StoreFault> {
+        Ok(self.find(place)?.is_some())
     }
 
-    fn lengths(&self, slot: usize, number: u8) -> Result<Lengths, StoreFault> {
-        let i = judge_place(SLOTS, slot, number)?;
-        match self.lengths_at(i) {
-            Some(lengths) => Ok(lengths),
-            None => Err(StoreFault::NotHeld),
-        }
+    fn lengths(&self, place: Place) -> Result<Lengths, StoreFault> {
+        Ok(self.look_up(place)?.lengths())
     }
 
-    fn equals(
-        &self,
-        slot: usize,
-        number: u8,
-        message: &[u8],
-        area: Option<&[u8]>,
-    ) -> Result<bool, StoreFault> {
-        let i = judge_place(SLOTS, slot, number)?;
-        match self.lengths_at(i) {
-            Some(lengths) => Ok(lengths.equals(&self.berths[i].octets, message, area)),
-            None => Err(StoreFault::NotHeld),
-        }
+    fn equals(&self, place: Place, segment: Segment<'_>) -> Result<bool, StoreFault> {
+        Ok(self.look_up(place)? == segment)
     }
 
-    fn copy_out(&self, slot: usize, number: u8, memory: &mut [u8]) -> Result<(), StoreFault> {
-        let i = judge_place(SLOTS, slot, number)?;
-        let Some(lengths) = self.lengths_at(i) else {
-            return Err(StoreFault::NotHeld);
-        };
-        let count = lengths.count();
-        if memory.len() < count {
-            return Err(StoreFault::Memory(memory.len()));
-        }
-        let octets = &self.berths[i].octets;
-        put(memory, 0, &octets[0..count]);
+    fn copy_out(&self, place: Place, memory: &mut [u8]) -> Result<(), StoreFault> {
+        let segment = self.look_up(place)?;
+        check_memory(memory, segment.octet_count())?;
+        segment.write_to(memory);
         Ok(())
     }
 }

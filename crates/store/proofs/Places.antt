@@ -1,10 +1,10 @@
 -- What the judging of a place tells.
-use Rattle.std.proofs.Common.{◌≡◌, ℕ, ◌<◌, ◌≤◌, Bool, true, false, cond, ltb, leb, is_some, is_ok, Some, None, Ok, Err, Result, refl, ap, ◌∙◌, ⊎_elim, arith}
+use Rattle.std.proofs.Common.{◌≡◌, ℕ, ◌<◌, ◌≤◌, Bool, true, false, cond, ltb, leb, is_some, is_ok, Some, None, Ok, Err, Option, Result, refl, ap, ◌∙◌, ⊎_elim, arith}
 use Rattle.std.proofs.lemmas.Bool.{cases_lt, le-leb, lt-leb, le-ltb, lt-ltb}
 use Rattle.store.specs.declared.StoreFault.{StoreFault}
 use Rattle.store.specs.declared.StoreFault.TheVariants.{NoSlot, NoNumber, Occupied, NotHeld, NoUnits, Memory}
 use Rattle.store.specs.Meaning.{Shape, Held, Content, count, units_free}
-use Rattle.store.specs.Outcomes.{at_place, not_too_long, where_held, judged_place, index, put_outcome, held_outcome, copy_outcome}
+use Rattle.store.specs.Outcomes.{at_place, not_too_long, where_held, judged_place, index, put_outcome, held_outcome, copy_outcome, look_up, judged_memory, judged_octets}
 use Rattle.store.specs.Numbers.{number_count, most_octets}
 
 -- a place that there is, by its index
@@ -78,6 +78,38 @@ module _ (shape : Shape) (h : Held) (slot number i : ℕ) (t : There shape.slots
   copy_done seg n m e c low =
       let a : ltb m (count seg) ≡ false = le-ltb _ _ (omega arith) in
       of_held (λ s. cond (ltb m (count s)) (Err (Memory m)) (Ok tt)) seg (Ok tt) e (rw a)
+
+-- what a look-up finds is held
+pub found : (shape : Shape) (h : Held) (slot number : ℕ) (seg : Content) → Ok seg ≡ look_up shape h slot number → h slot number ≡ Some seg
+found shape h slot number seg e = at (leb shape.slots slot) (leb number_count number) (NoSlot slot) (NoNumber number) (h slot number) e
+  where
+    at : (a b : Bool) (d f : StoreFault) (o : Option Content) → Ok seg ≡ cond a (Err d) (cond b (Err f) (where_held o Ok)) → o ≡ Some seg
+    at true b d f o e = let y : ◌≡◌ {A = ℕ} 0 1 = cc in absurd (omega arith)
+    at false true d f o e = let y : ◌≡◌ {A = ℕ} 0 1 = cc in absurd (omega arith)
+    at false false d f None e = let y : ◌≡◌ {A = ℕ} 0 1 = cc in absurd (omega arith)
+    at false false d f (Some c) e = cc
+
+-- octets that are not refused are not too many
+pub short_enough : (n : ℕ) (u : Unit {0}) → Ok u ≡ judged_octets n → n ≤ most_octets
+short_enough n u e =
+    ⊎_elim
+    (λ (l : most_octets < n).
+    let a : ltb most_octets n ≡ true = lt-ltb _ _ l in
+    let f = rw a at e in
+    let y : ◌≡◌ {A = ℕ} 0 1 = cc in absurd (omega arith))
+    (λ (l : n ≤ most_octets). l)
+    (cases_lt most_octets n)
+
+-- a memory that is not refused is long enough
+pub roomy : (n octets : ℕ) (u : Unit {0}) → Ok u ≡ judged_memory n octets → octets ≤ n
+roomy n octets u e =
+    ⊎_elim
+    (λ (l : n < octets).
+    let a : ltb n octets ≡ true = lt-ltb _ _ l in
+    let f = rw a at e in
+    let y : ◌≡◌ {A = ℕ} 0 1 = cc in absurd (omega arith))
+    (λ (l : octets ≤ n). l)
+    (cases_lt n octets)
 
 -- a check that refuses in one case, and what its answer tells
 abbrev pub refused_where : Bool → StoreFault → Result (Unit {0}) StoreFault

@@ -23,6 +23,10 @@ abbrev pub where_held : {X : Type 0} → Option Content → (Content → Result 
 where_held None next = Err NotHeld
 where_held (Some seg) next = next seg
 
+-- the segment that is held at a place
+abbrev pub look_up : Shape → Held → ℕ → ℕ → Result Content StoreFault
+look_up shape h slot number = at_place shape slot number (where_held (h slot number) Ok)
+
 abbrev pub put_outcome : Shape → Held → ℕ → ℕ → Content → Result (Unit {0}) StoreFault
 put_outcome shape h slot number seg =
     at_place shape slot number

@@ -1,21 +1,6 @@
-use Rattle.std.proofs.Common.{◌≡◌, None, ap, ◌∙◌, arith}
-use Rattle.store.specs.Meaning.{replaced}
-use Rattle.store.specs.Numbers.{number_count}
-use Rattle.store.proofs.Changes.{without_below, below_none, below_more, below_all}
-use Rattle.berths.specs.Numbers.{berths_shape}
-use Rattle.berths.specs.Holding.{holding}
-use Rattle.berths.specs.Laying.{all_placed}
+use Rattle.std.proofs.Common.{arith}
+use Rattle.berths.proofs.Rows.{held_cleared}
 use Rattle.berths.proofs.Berths.clear.Goals as goal
 
-pub loop-number-init : goal.loop-number-init
-loop-number-init c = below_none (holding c.args.self.now) c.args.slot
-
-pub loop-number-preserved : goal.loop-number-preserved
-loop-number-preserved c =
-    c.release.ensures ∙ ap (λ h. replaced h c.args.slot c.loop-number.number None) c.loop-number.invariant ∙ below_more (holding c.args.self.now) c.args.slot c.loop-number.number
-
 pub returns : goal.returns
-returns c =
-    let s = c.args.self.now in
-    let end : c.loop-number.number ≡ number_count = omega arith in
-    c.loop-number.invariant ∙ ap (λ n. without_below (holding s) c.args.slot n) end ∙ below_all berths_shape (holding s) c.args.slot (all_placed s.berths s.all s.long s.fitting)
+returns c = let s = c.args.self.now in held_cleared s.berths c.fill.new.self c.args.slot _ c.vacant.result s.all c.requires (omega arith) (c.fill.ensures.after (λ y e. e)) c.vacant.ensures

@@ -1,7 +1,0 @@
-use Rattle.std.proofs.Common.{◌≡◌}
-use Rattle.store.proofs.Changes.{without_below}
-use Rattle.berths.specs.Holding.{holding}
-use Rattle.berths.proofs.Berths.clear.Given as goal
-
-abbrev pub invariant-loop-number : goal.invariant-loop-number
-invariant-loop-number l = holding l.self ≡ without_below (holding l.initial.self) l.slot l.number
