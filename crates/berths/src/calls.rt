@@ -54,6 +54,7 @@ impl Berths {
     }
 
     // How many segments a slot holds.
+    #[tactic(auto, using(crate::proofs::Counts::part_counted))]
     fn count(&self, slot: usize) -> usize
         requires { slot < slot_count }
         ensures { result ≡ slot_units one (holding self.now) slot }
@@ -113,6 +114,7 @@ impl Store for Berths {
         Ok(1)
     }
 
+    #[tactic(auto, using(crate::proofs::Counts::all_counted))]
     fn units_held(&self) -> usize {
         count_taken(&self.berths)
     }
@@ -134,6 +136,7 @@ impl Store for Berths {
         Ok(self.look_up(place)? == segment)
     }
 
+    #[tactic(auto, using(crate::proofs::Copies::copied_found))]
     fn copy_out(&self, place: Place, memory: &mut [u8]) -> Result<(), StoreFault> {
         let segment = self.look_up(place)?;
         check_memory(memory, segment.octet_count())?;

@@ -7,10 +7,24 @@ mod tests {
     use pool::Pool;
     use std::process::Abort;
     use store::trial::try_two;
-    use store::{Lengths, Store, StoreFault};
+    use store::{Lengths, Place, Segment, Store, StoreFault};
 
-    fn absent<'a>() -> Option<&'a [u8]> {
-        None
+    fn at(slot: usize, number: u8) -> Place {
+        Place { slot, number }
+    }
+
+    fn alone(message: &[u8]) -> Segment<'_> {
+        Segment {
+            message,
+            area: None,
+        }
+    }
+
+    fn both<'a>(message: &'a [u8], area: &'a [u8]) -> Segment<'a> {
+        Segment {
+            message,
+            area: Some(area),
+        }
     }
 
     // The last slot and the last number are there, the next ones are not.
@@ -19,19 +33,19 @@ mod tests {
         let last = slots.saturating_sub(1);
         assert_eq!(rt; store.slots(), slots);
         assert_eq!(rt;
-            store.put(slots, 64, &octets, absent()),
+            store.put(at(slots, 64), alone(&octets)),
             Err(StoreFault::NoSlot(slots))
         );
         assert_eq!(rt;
-            store.put(last, 64, &octets, absent()),
+            store.put(at(last, 64), alone(&octets)),
             Err(StoreFault::NoNumber(64))
         );
-        assert_eq!(rt; store.put(last, 63, &octets, absent()), Ok(()));
-        assert_eq!(rt; store.is_held(last, 63), Ok(true));
-        assert_eq!(rt; store.is_held(last, 62), Ok(false));
-        assert_eq!(rt; store.is_held(last, 64), Err(StoreFault::NoNumber(64)));
+        assert_eq!(rt; store.put(at(last, 63), alone(&octets)), Ok(()));
+        assert_eq!(rt; store.is_held(at(last, 63)), Ok(true));
+        assert_eq!(rt; store.is_held(at(last, 62)), Ok(false));
+        assert_eq!(rt; store.is_held(at(last, 64)), Err(StoreFault::NoNumber(64)));
         assert_eq!(rt;
-            store.put(last, 63, &octets, absent()),
+            store.put(at(last, 63), alone(&octets)),
             Err(StoreFault::Occupied)
         );
     }
@@ -47,59 +61,59 @@ mod tests {
     }
 
     // 256 octets are put, 257 are not, however they are divided.
-    fn longest<S: Store>(rt: &impl Abort, store: &mut S, area: Option<&[u8]>) {
+    fn longest<S: Store>(rt: &impl Abort, store: &mut S, area: &[u8]) {
         let octets = [9u8; 257];
         assert_eq!(rt;
-            store.put(0, 0, &octets, area),
+            store.put(at(0, 0), both(&octets, area)),
             Err(StoreFault::TooLong(258))
         );
         assert_eq!(rt;
-            store.put(0, 0, &octets[0..256], area),
+            store.put(at(0, 0), both(&octets[0..256], area)),
             Err(StoreFault::TooLong(257))
         );
-        assert_eq!(rt; store.put(0, 0, &octets[0..255], area), Ok(()));
-        assert_eq!(rt; store.equals(0, 0, &octets[0..255], area), Ok(true));
-        assert_eq!(rt; store.equals(0, 0, &octets[0..256], area), Ok(false));
-        assert_eq!(rt; store.equals(0, 0, &octets, area), Ok(false));
+        assert_eq!(rt; store.put(at(0, 0), both(&octets[0..255], area)), Ok(()));
+        assert_eq!(rt; store.equals(at(0, 0), both(&octets[0..255], area)), Ok(true));
+        assert_eq!(rt; store.equals(at(0, 0), both(&octets[0..256], area)), Ok(false));
+        assert_eq!(rt; store.equals(at(0, 0), both(&octets, area)), Ok(false));
         assert_eq!(rt; store.cost(257), Err(StoreFault::TooLong(257)));
     }
 
     #[test]
     fn berths_take_256_octets(rt: HostRuntime) {
-        longest(&rt, &mut Berths::new(), Some(&[1u8]));
+        longest(&rt, &mut Berths::new(), &[1u8]);
     }
 
     #[test]
     fn pools_take_256_octets(rt: HostRuntime) {
-        longest(&rt, &mut Pool::new(), Some(&[1u8]));
+        longest(&rt, &mut Pool::new(), &[1u8]);
     }
 
     // An empty area is no absent one.
     fn nothing_in_it<S: Store>(rt: &impl Abort, store: &mut S) {
         let empty: &[u8] = &[];
-        assert_eq!(rt; store.put(1, 5, empty, absent()), Ok(()));
-        assert_eq!(rt; store.put(1, 6, empty, Some(empty)), Ok(()));
+        assert_eq!(rt; store.put(at(1, 5), alone(empty)), Ok(()));
+        assert_eq!(rt; store.put(at(1, 6), both(empty, empty)), Ok(()));
         assert_eq!(rt; store.units_of(1), Ok(2));
         assert_eq!(rt;
-            store.lengths(1, 5),
+            store.lengths(at(1, 5)),
             Ok(Lengths {
                 message: 0,
                 area: None,
             })
         );
         assert_eq!(rt;
-            store.lengths(1, 6),
+            store.lengths(at(1, 6)),
             Ok(Lengths {
                 message: 0,
                 area: Some(0),
             })
         );
-        assert_eq!(rt; store.equals(1, 5, empty, absent()), Ok(true));
-        assert_eq!(rt; store.equals(1, 5, empty, Some(empty)), Ok(false));
-        assert_eq!(rt; store.equals(1, 6, empty, absent()), Ok(false));
-        assert_eq!(rt; store.equals(1, 6, empty, Some(empty)), Ok(true));
+        assert_eq!(rt; store.equals(at(1, 5), alone(empty)), Ok(true));
+        assert_eq!(rt; store.equals(at(1, 5), both(empty, empty)), Ok(false));
+        assert_eq!(rt; store.equals(at(1, 6), alone(empty)), Ok(false));
+        assert_eq!(rt; store.equals(at(1, 6), both(empty, empty)), Ok(true));
         assert_eq!(rt;
-            store.equals(1, 7, empty, absent()),
+            store.equals(at(1, 7), alone(empty)),
             Err(StoreFault::NotHeld)
         );
     }
@@ -117,12 +131,12 @@ mod tests {
     // The message and then the area are copied, and the rest stays.
     fn copied<S: Store>(rt: &impl Abort, store: &mut S) {
         let mut memory = [0u8; 7];
-        assert_eq!(rt; store.put(0, 9, &[1, 2, 3], Some(&[4, 5])), Ok(()));
+        assert_eq!(rt; store.put(at(0, 9), both(&[1, 2, 3], &[4, 5])), Ok(()));
         assert_eq!(rt;
-            store.copy_out(0, 9, &mut memory[0..4]),
+            store.copy_out(at(0, 9), &mut memory[0..4]),
             Err(StoreFault::Memory(4))
         );
-        assert_eq!(rt; store.copy_out(0, 9, &mut memory), Ok(()));
+        assert_eq!(rt; store.copy_out(at(0, 9), &mut memory), Ok(()));
         assert!(rt; memory == [1, 2, 3, 4, 5, 0, 0]);
     }
 
@@ -138,11 +152,11 @@ mod tests {
 
     // A trial leaves the store as it was.
     fn tried<S: Store>(rt: &impl Abort, store: &mut S) {
-        assert_eq!(rt; store.put(0, 0, &[1], absent()), Ok(()));
-        assert_eq!(rt; try_two(store, 1, &[2; 40], &[3; 50], absent()), Ok(()));
+        assert_eq!(rt; store.put(at(0, 0), alone(&[1])), Ok(()));
+        assert_eq!(rt; try_two(store, 1, alone(&[2; 40]), alone(&[3; 50])), Ok(()));
         assert_eq!(rt; store.units_held(), 1);
-        assert_eq!(rt; store.is_held(1, 0), Ok(false));
-        assert_eq!(rt; store.equals(0, 0, &[1], absent()), Ok(true));
+        assert_eq!(rt; store.is_held(at(1, 0)), Ok(false));
+        assert_eq!(rt; store.equals(at(0, 0), alone(&[1])), Ok(true));
     }
 
     #[test]
@@ -159,7 +173,7 @@ mod tests {
     fn fill(rt: &impl Abort, pool: &mut Pool, slot: usize) {
         let octets = [slot.min(9) as u8; 256];
         for number in 0..64u8 {
-            assert_eq!(rt; pool.put(slot, number, &octets, absent()), Ok(()));
+            assert_eq!(rt; pool.put(at(slot, number), alone(&octets)), Ok(()));
         }
     }
 
@@ -171,7 +185,7 @@ mod tests {
             fill(&rt, &mut pool, slot);
             assert_eq!(rt; pool.units_held(), 512);
             assert_eq!(rt;
-                pool.put((slot + 1) % 9, 0, &[1; 33], absent()),
+                pool.put(at((slot + 1) % 9, 0), alone(&[1; 33])),
                 Err(StoreFault::NoUnits { cost: 2, free: 0 })
             );
             assert_eq!(rt; pool.drop_slot(slot), Ok(()));
@@ -184,12 +198,12 @@ mod tests {
         let mut pool = Pool::new();
         for slot in 0..8usize {
             for number in 0..64u8 {
-                assert_eq!(rt; pool.put(slot, number, &[number], absent()), Ok(()));
+                assert_eq!(rt; pool.put(at(slot, number), alone(&[number])), Ok(()));
             }
         }
         assert_eq!(rt; pool.units_of(7), Ok(64));
         assert_eq!(rt;
-            pool.put(8, 0, &[], absent()),
+            pool.put(at(8, 0), alone(&[])),
             Err(StoreFault::NoUnits { cost: 1, free: 0 })
         );
         pool.drop_all();
