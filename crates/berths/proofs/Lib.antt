@@ -1,3 +1,4 @@
 pub mod Rows
 pub mod Counts
 pub mod Copies
+pub mod Puts

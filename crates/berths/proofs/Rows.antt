@@ -1,21 +1,26 @@
 -- What the berths hold, after a berth or a slot of them is written.
-use Rattle.std.proofs.Common.{◌≡◌, ℕ, ◌+◌, ◌-◌, ◌*◌, ◌<◌, ◌≤◌, Bool, true, false, cond, ◌&&◌, List, length, drop, get_or, set, replicate, eqb, Some, None, Option, sym, refl, ap, ◌∙◌, ⊎_elim, arith, rules}
+use Rattle.std.proofs.Common.{◌≡◌, ℕ, ◌+◌, ◌-◌, ◌*◌, ◌<◌, ◌≤◌, Bool, true, false, cond, ◌&&◌, List, length, drop, get_or, set, replicate, eqb, Some, None, Ok, Option, sym, refl, ap, ◌∙◌, ⊎_elim, arith, rules}
 use Rattle.std.proofs.Math.Path.{fun_ext}
 use Rattle.std.proofs.lemmas.List.{get_or_read, get_or-set_same, get_or-set_other, get_or-replicate, length-drop, length-replicate, length-take-le, places}
 use Rattle.std.proofs.lemmas.Bool.{cases_eq, cases_lt, eq-eqb, ne_eqb, and_left, and_right}
 use borrow.Rule.Slice.PartMut.{mid_of, put_mid}
 use Rattle.store.specs.Meaning.{Content, Held, nothing, with_segment, without_slot}
 use Rattle.store.specs.Numbers.{number_count}
-use Rattle.store.specs.Outcomes.{index}
-use Rattle.store.proofs.Places.{There}
+use Rattle.store.specs.Outcomes.{index, judged_place, at_place}
+use Rattle.store.proofs.Places.{There, there, at_there}
 use Rattle.berths.specs.declared.berth.Berth.{Berth}
-use Rattle.berths.specs.Numbers.{slot_count, berth_count}
+use Rattle.berths.specs.Numbers.{slot_count, berth_count, berths_shape}
 use Rattle.berths.specs.Berthed.{empty, berth, lies, held_in}
 use Rattle.berths.specs.Laws.{past, beyond, held_at}
 
 -- a berth that is read has what is held at its place
 pub read_at : (bs : List Berth) (slot n i : ℕ) (b : Berth) → length bs ≡ berth_count → There slot_count slot n i → b ≡ get_or bs i b → lies (get_or bs i b) ≡ held_in bs slot n
 read_at bs slot n i b all t is = ap lies (sym is ∙ get_or_read bs i b (omega (arith, t.low, t.few, t.is)) is empty) ∙ sym (held_at bs slot n i t)
+
+pub found_at : (bs : List Berth) (slot n i : ℕ) (b : Berth) (o : Option Content) → length bs ≡ berth_count → Ok i ≡ judged_place slot_count slot n → b ≡ get_or bs i b → o ≡ lies (get_or bs i b) → Ok o ≡ at_place berths_shape slot n (Ok (held_in bs slot n))
+found_at bs slot n i b o all p is e =
+    let t = there slot_count slot n i p in
+    ap Ok (e ∙ read_at bs slot n i b all t is) ∙ at_there berths_shape slot n i (Ok (held_in bs slot n)) t
 
 -- what is held, place by place
 held_is : (bs : List Berth) (h : Held) → ((s k : ℕ) → slot_count ≤ s → h s k ≡ None) → ((s k : ℕ) → number_count ≤ k → h s k ≡ None) → ((s k : ℕ) → s < slot_count → k < number_count → lies (berth bs (index s k)) ≡ h s k) → held_in bs ≡ h

@@ -20,6 +20,7 @@ use store::{Lengths, Place, Segment, Store, StoreFault};
 
 impl Berths {
     // Berths that hold nothing.
+    #[tactic(auto, using(crate::proofs::Rows::held_none))]
     pub fn new() -> Berths
         ensures { holding result ≡ nothing }
     {
@@ -30,6 +31,7 @@ impl Berths {
     }
 
     // The segment that is held at a place, if there is one.
+    #[tactic(auto, using(crate::proofs::Rows::found_at))]
     fn find(&self, place: Place) -> Result<Option<Segment<'_>>, StoreFault>
         ensures { result_map_both (option_map content) (λ f. f) result ≡ at_place berths_shape place.slot place.number (Ok (holding self.now place.slot place.number)) }
     {
@@ -82,6 +84,7 @@ impl Store for Berths {
 
     ghost placed = { λ s slot number. all_placed s.berths slot number };
 
+    #[tactic(auto, using(crate::proofs::Puts::taken_at, crate::proofs::Puts::room_at))]
     fn put(&mut self, place: Place, segment: Segment<'_>) -> Result<(), StoreFault> {
         let i = place.index(SLOTS)?;
         check_octets(segment.octet_count())?;
