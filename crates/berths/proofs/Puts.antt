@@ -1,12 +1,12 @@
 -- What putting answers.
-use Rattle.std.proofs.Common.{◌≡◌, ℕ, ◌-◌, ◌≤◌, false, List, length, get_or, is_some, Ok, sym, ap}
-use Rattle.store.specs.Meaning.{Content, units}
+use Rattle.std.proofs.Common.{◌≡◌, ℕ, ◌-◌, ◌≤◌, false, List, length, get_or, is_some, set, Some, Ok, sym, ap}
+use Rattle.store.specs.Meaning.{Content, units, with_segment}
 use Rattle.store.specs.Outcomes.{judged_place}
 use Rattle.store.proofs.Places.{there}
 use Rattle.berths.specs.declared.berth.Berth.{Berth}
 use Rattle.berths.specs.Numbers.{slot_count, berth_count, berths_shape}
-use Rattle.berths.specs.Berthed.{taken, held_in}
-use Rattle.berths.proofs.Rows.{read_at}
+use Rattle.berths.specs.Berthed.{lies, taken, held_in}
+use Rattle.berths.proofs.Rows.{read_at, held_set}
 use Rattle.berths.proofs.Counts.{one_free}
 
 pub taken_at : (bs : List Berth) (slot n i : ℕ) (b : Berth) → length bs ≡ berth_count → Ok i ≡ judged_place slot_count slot n → b ≡ get_or bs i b → is_some (held_in bs slot n) ≡ taken (get_or bs i b)
@@ -14,3 +14,6 @@ taken_at bs slot n i b all p is = ap is_some (sym (read_at bs slot n i b all (th
 
 pub room_at : (bs : List Berth) (slot n i : ℕ) (seg : Content) → Ok i ≡ judged_place slot_count slot n → is_some (held_in bs slot n) ≡ false → 1 ≤ berth_count - units berths_shape (held_in bs)
 room_at bs slot n i seg p none = let t = there slot_count slot n i p in one_free (held_in bs) slot n seg t.low t.few none
+
+pub laid_at : (bs : List Berth) (slot n i : ℕ) (b : Berth) (seg : Content) → length bs ≡ berth_count → Ok i ≡ judged_place slot_count slot n → lies b ≡ Some seg → held_in (set bs i b) ≡ with_segment (held_in bs) slot n seg
+laid_at bs slot n i b seg all p e = held_set bs slot n i b seg all (there slot_count slot n i p) e

@@ -84,7 +84,7 @@ impl Store for Berths {
 
     ghost placed = { λ s slot number. all_placed s.berths slot number };
 
-    #[tactic(auto, using(crate::proofs::Puts::taken_at, crate::proofs::Puts::room_at))]
+    #[tactic(auto, using(crate::proofs::Puts::taken_at, crate::proofs::Puts::room_at, crate::proofs::Puts::laid_at))]
     fn put(&mut self, place: Place, segment: Segment<'_>) -> Result<(), StoreFault> {
         let i = place.index(SLOTS)?;
         check_octets(segment.octet_count())?;
