@@ -9,6 +9,7 @@ use crate::numbers::*;
 use store::{Lengths, Segment};
 
 // The lengths of the segment that is held, and its octets: message, then area.
+// Kept: a store has no heap, so the octets are fixed memory with the lengths beside.
 #[derive(Clone, Copy)]
 pub struct Berth {
     lengths: Option<Lengths>,

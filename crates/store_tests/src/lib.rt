@@ -72,8 +72,14 @@ mod tests {
             Err(StoreFault::TooLong(257))
         );
         assert_eq!(rt; store.put(at(0, 0), both(&octets[0..255], area)), Ok(()));
-        assert_eq!(rt; store.equals(at(0, 0), both(&octets[0..255], area)), Ok(true));
-        assert_eq!(rt; store.equals(at(0, 0), both(&octets[0..256], area)), Ok(false));
+        assert_eq!(rt;
+            store.equals(at(0, 0), both(&octets[0..255], area)),
+            Ok(true)
+        );
+        assert_eq!(rt;
+            store.equals(at(0, 0), both(&octets[0..256], area)),
+            Ok(false)
+        );
         assert_eq!(rt; store.equals(at(0, 0), both(&octets, area)), Ok(false));
         assert_eq!(rt; store.cost(257), Err(StoreFault::TooLong(257)));
     }
