@@ -1,10 +1,10 @@
 -- What the judging of a place tells.
-use Rattle.std.proofs.Common.{◌≡◌, ℕ, ◌<◌, ◌≤◌, Bool, true, false, cond, ltb, leb, is_some, is_ok, Some, None, Ok, Err, Option, Result, refl, ap, ◌∙◌, ⊎_elim, arith}
+use Rattle.std.proofs.Common.{◌≡◌, ℕ, ◌<◌, ◌≤◌, Bool, true, false, cond, ltb, leb, is_some, Some, None, Ok, Err, Option, Result, refl, ap, ◌∙◌, ⊎_elim, arith}
 use Rattle.std.proofs.lemmas.Bool.{cases_lt, le-leb, lt-leb, le-ltb, lt-ltb}
 use Rattle.store.specs.declared.StoreFault.{StoreFault}
-use Rattle.store.specs.declared.StoreFault.TheVariants.{NoSlot, NoNumber, Occupied, NotHeld, NoUnits, Memory}
+use Rattle.store.specs.declared.StoreFault.TheVariants.{NoSlot, NoNumber, Occupied, NoUnits}
 use Rattle.store.specs.Meaning.{Shape, Held, Content, count, units_free}
-use Rattle.store.specs.Outcomes.{at_place, not_too_long, where_held, judged_place, index, put_outcome, held_outcome, copy_outcome, look_up, judged_memory, judged_octets}
+use Rattle.store.specs.Outcomes.{at_place, not_too_long, where_held, judged_place, index, put_outcome, held_outcome, look_up, judged_memory}
 use Rattle.store.specs.Numbers.{number_count, most_octets}
 
 -- a place that there is, by its index
@@ -59,25 +59,8 @@ module _ (shape : Shape) (h : Held) (slot number i : ℕ) (seg : Content) (t : T
 
 -- the answers of the questions at such a place
 module _ (shape : Shape) (h : Held) (slot number i : ℕ) (t : There shape.slots slot number i) where
-  pub not_held : {X : Type 0} (next : Content → Result X StoreFault) → h slot number ≡ None → Err NotHeld ≡ at_place shape slot number (where_held (h slot number) next)
-  not_held next e = rw e (at_there shape slot number i (Err NotHeld) t)
-
-  pub of_held : {X : Type 0} (next : Content → Result X StoreFault) (seg : Content) (r : Result X StoreFault) → h slot number ≡ Some seg → r ≡ next seg → r ≡ at_place shape slot number (where_held (h slot number) next)
-  of_held next seg r e f = rw e (f ∙ at_there shape slot number i (next seg) t)
-
   pub held_told : (b : Bool) → b ≡ is_some (h slot number) → Ok b ≡ held_outcome shape h slot number
   held_told b e = ap Ok e ∙ at_there shape slot number i (Ok (is_some (h slot number))) t
-
-  -- copying out of a segment of the count n into a memory
-  pub copy_short : (seg : Content) (n m : ℕ) → h slot number ≡ Some seg → n ≡ count seg → m < n → Err (Memory m) ≡ copy_outcome shape h slot number m
-  copy_short seg n m e c low =
-      let a : ltb m (count seg) ≡ true = lt-ltb _ _ (omega arith) in
-      of_held (λ s. cond (ltb m (count s)) (Err (Memory m)) (Ok tt)) seg (Err (Memory m)) e (rw a)
-
-  pub copy_done : (seg : Content) (n m : ℕ) → h slot number ≡ Some seg → n ≡ count seg → n ≤ m → Ok tt ≡ copy_outcome shape h slot number m
-  copy_done seg n m e c low =
-      let a : ltb m (count seg) ≡ false = le-ltb _ _ (omega arith) in
-      of_held (λ s. cond (ltb m (count s)) (Err (Memory m)) (Ok tt)) seg (Ok tt) e (rw a)
 
 -- what a look-up finds is held
 pub found : (shape : Shape) (h : Held) (slot number : ℕ) (seg : Content) → Ok seg ≡ look_up shape h slot number → h slot number ≡ Some seg
@@ -88,17 +71,6 @@ found shape h slot number seg e = at (leb shape.slots slot) (leb number_count nu
     at false true d f o e = let y : ◌≡◌ {A = ℕ} 0 1 = cc in absurd (omega arith)
     at false false d f None e = let y : ◌≡◌ {A = ℕ} 0 1 = cc in absurd (omega arith)
     at false false d f (Some c) e = cc
-
--- octets that are not refused are not too many
-pub short_enough : (n : ℕ) (u : Unit {0}) → Ok u ≡ judged_octets n → n ≤ most_octets
-short_enough n u e =
-    ⊎_elim
-    (λ (l : most_octets < n).
-    let a : ltb most_octets n ≡ true = lt-ltb _ _ l in
-    let f = rw a at e in
-    let y : ◌≡◌ {A = ℕ} 0 1 = cc in absurd (omega arith))
-    (λ (l : n ≤ most_octets). l)
-    (cases_lt most_octets n)
 
 -- a memory that is not refused is long enough
 pub roomy : (n octets : ℕ) (u : Unit {0}) → Ok u ≡ judged_memory n octets → octets ≤ n
@@ -122,7 +94,3 @@ refused_if false e f z = let y : ◌≡◌ {A = ℕ} 0 1 = cc in absurd (omega a
 pub passed_if : (b : Bool) (e : StoreFault) (u : Unit {0}) → Ok u ≡ refused_where b e → b ≡ false
 passed_if true e u z = let y : ◌≡◌ {A = ℕ} 0 1 = cc in absurd (omega arith)
 passed_if false e u z = refl
-
--- a refusal leaves things as they were
-pub unchanged : {X : Type 0} (r : Result (Unit {0}) StoreFault) (f : StoreFault) (a b : X) → r ≡ Err f → b ≡ cond (is_ok r) a b
-unchanged r f a b e = rw e
