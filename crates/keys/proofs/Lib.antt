@@ -1,5 +1,1 @@
-pub mod Counts
-pub mod Expiry
-pub mod Places
-pub mod Rooms
 pub mod Rotated

@@ -1,15 +1,8 @@
 -- Lists of keys with the clock of their storing, the oldest first, for every kind of key.
-use Rattle.std.specs.Prelude.{◌≡◌, ℕ, ◌+◌, ◌-◌, ◌<◌, Bool, cond, not, List, [], ◌∷◌, ◌++◌, length, Some, None, count_by, filter, Option, ◌≢◌, nat_le, slice_index_or}
-use Rattle.std.specs.List.{remove, AllByRecursion}
+use Rattle.std.specs.Prelude.{◌≡◌, ℕ, ◌-◌, ◌<◌, Bool, not, List, [], ◌∷◌, ◌++◌, length, Some, None, count_by, filter, Option, ◌≢◌, nat_le, slice_index_or}
+use Rattle.std.specs.List.{remove, position, All}
 use Rattle.keys.specs.declared.Entry.{Entry}
-
--- where the first element that passes a test stands, the places counted from n
-abbrev pub first_from : {X : Type 0} → (X → Bool) → ℕ → List X → Option ℕ
-first_from p n [] = None
-first_from p n (x ∷ xs) = cond (p x) (Some n) (first_from p (n + 1) xs)
-
-abbrev pub first : {X : Type 0} → (X → Bool) → List X → Option ℕ
-first p xs = first_from p 0 xs
+use Rattle.keys.specs.declared.Expiry.{Expiry}
 
 -- a list without the element at a place; without none, the list itself
 abbrev pub without : {X : Type 0} → Option ℕ → List X → List X
@@ -26,11 +19,11 @@ module _ {K : Type 0} where
 
   -- where a key stands, or the oldest of a key's group
   abbrev pub place : (K → K → Bool) → K → List (Entry K) → Option ℕ
-  place test key xs = first (like test key) xs
+  place test key xs = position (like test key) xs
 
   -- at the place that is found the key stands; where none is found, it stands nowhere
   abbrev pub Found : K → List (Entry K) → Option ℕ → Type 0
-  Found key xs None = AllByRecursion (λ e. e.key ≢ key) xs
+  Found key xs None = All (λ e. e.key ≢ key) xs
   Found key xs (Some i) = (i < length xs) × ((d : Entry K) → (slice_index_or xs i d).key ≡ key)
 
   -- how many entries are of a key's group
@@ -43,16 +36,16 @@ module _ {K : Type 0} where
   oldest_place (e ∷ es) = Some 0
 
   -- a list with one entry more, the newest
-  abbrev pub stored_last : K → ℕ → List (Entry K) → List (Entry K)
-  stored_last key clock xs = xs ++ (entry key clock ∷ [])
+  abbrev pub stored_last : Entry K → List (Entry K) → List (Entry K)
+  stored_last e xs = xs ++ e ∷ []
 
   -- stored a period ago or more; what was stored after the clock has the age 0
-  abbrev pub old : ℕ → ℕ → Entry K → Bool
-  old clock period e = nat_le period (clock - e.stored)
+  abbrev pub old : Expiry → Entry K → Bool
+  old expiry e = nat_le expiry.period (expiry.clock - e.stored)
 
   -- how many entries expiry takes, and what it leaves, in order
-  abbrev pub gone : ℕ → ℕ → List (Entry K) → ℕ
-  gone clock period xs = count_by (old clock period) xs
+  abbrev pub gone : Expiry → List (Entry K) → ℕ
+  gone expiry xs = count_by (old expiry) xs
 
-  abbrev pub left : ℕ → ℕ → List (Entry K) → List (Entry K)
-  left clock period xs = filter (λ e. not (old clock period e)) xs
+  abbrev pub left : Expiry → List (Entry K) → List (Entry K)
+  left expiry xs = filter (λ e. not (old expiry e)) xs

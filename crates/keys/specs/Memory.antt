@@ -23,8 +23,8 @@ module _ {K : Type 0} (same grouped : K → K → Bool) where
   freed most capacity key xs = option_or (place same key xs) (makes_way grouped most capacity key xs)
 
   -- The list after a key was remembered: the key is the newest, and the others keep their order.
-  abbrev pub remembered : ℕ → ℕ → K → ℕ → List (Entry K) → List (Entry K)
-  remembered most capacity key clock xs = stored_last key clock (without (freed most capacity key xs) xs)
+  abbrev pub remembered : ℕ → ℕ → Entry K → List (Entry K) → List (Entry K)
+  remembered most capacity e xs = stored_last e (without (freed most capacity e.key xs) xs)
 
 -- whether a key is held
 abbrev pub holds : {K : Type 0} → (K → K → Bool) → K → List (Entry K) → Bool

@@ -4,7 +4,7 @@
 
 ghost use Rattle.std.specs.Prelude.{◌≡◌, ℕ, ◌+◌, ◌-◌, ◌<◌, ◌≤◌, Bool, true, length, take, IfSome, Decides, slice_index_or};
 ghost use Rattle.std.specs.List.{remove};
-ghost use Rattle.keys.specs.Entries.{place, Found, count_of, oldest_place, stored_last, old, gone, left};
+ghost use Rattle.keys.specs.Entries.{entry, place, Found, count_of, oldest_place, stored_last, old, gone, left};
 
 pub mod kinds;
 pub mod memory;
@@ -12,22 +12,17 @@ pub mod numbers;
 pub mod open_list;
 pub mod remembered;
 
-// What tells entries apart, and which of them belong together.
-pub trait Key: Copy {
-    // Whether all parts agree.
-    ghost same: { Self → Self → Bool };
-
+// What tells entries apart, and which of them belong together. Two keys are the same where they
+// are equal.
+pub trait Key: Copy + Eq {
     // Whether two keys are of one group.
     ghost grouped: { Self → Self → Bool };
-
-    fn is(&self, other: &Self) -> bool
-        ensures { result ≡ same self.now other.now };
 
     fn is_grouped_with(&self, other: &Self) -> bool
         ensures { result ≡ grouped self.now other.now };
 
     // The laws, which each type with this trait proves.
-    ghost decides: { (x y : Self) → Decides (same x y) (x ≡ y) };
+    ghost decides: { (x y : Self) → Decides (Self.eq x y) (x ≡ y) };
 
     ghost itself: { (x : Self) → grouped x x ≡ true };
 
@@ -41,27 +36,28 @@ pub struct Entry<K> {
     pub stored: u32,
 }
 
-impl<K> Entry<K> {
-    // Whether the entry was stored a period ago or more. One that was stored after the clock
-    // has the age 0.
-    pub fn is_old(&self, clock: u32, period: u32) -> bool
-        ensures { result ≡ old clock period self.now }
+// When entries go: at a clock, what was stored a period ago or more.
+#[derive(Clone, Copy, PartialEq, Eq, Debug)]
+pub struct Expiry {
+    pub clock: u32,
+    pub period: u32,
+}
+
+impl Expiry {
+    // Whether an entry goes. One that was stored after the clock has the age 0.
+    pub fn takes<K>(self, entry: &Entry<K>) -> bool
+        ensures { result ≡ old self entry.now }
     {
-        clock.saturating_sub(self.stored) >= period
+        self.clock.saturating_sub(entry.stored) >= self.period
     }
 }
 
 // Where the key stands.
 pub fn find<K: Key>(xs: &[Entry<K>], key: &K) -> Option<usize>
-    ensures value { result ≡ place K.same key.now xs.now }
+    ensures value { result ≡ place K.eq key.now xs.now }
     ensures found { Found key.now xs.now result }
 {
-    for (i, e) in xs.iter().enumerate() {
-        if key.is(&e.key) {
-            return Some(i);
-        }
-    }
-    None
+    xs.iter().position(|held| *key == held.key)
 }
 
 // Where the oldest entry stands.
@@ -77,33 +73,25 @@ pub fn oldest_of_group<K: Key>(xs: &[Entry<K>], key: &K) -> Option<usize>
     ensures value { result ≡ place K.grouped key.now xs.now }
     ensures within { IfSome result (λ i. i < length xs.now) }
 {
-    for (i, e) in xs.iter().enumerate() {
-        if key.is_grouped_with(&e.key) {
-            return Some(i);
-        }
-    }
-    None
+    xs.iter().position(|held| key.is_grouped_with(&held.key))
 }
 
 // How many entries are of the key's group.
 pub fn count_of_group<K: Key>(xs: &[Entry<K>], key: &K) -> usize
     ensures { result ≡ count_of K.grouped key.now xs.now }
 {
-    let mut count = 0;
-    for held in xs {
-        if key.is_grouped_with(&held.key) {
-            count += 1;
-        }
-    }
-    count
+    xs.iter()
+        .filter(|held| key.is_grouped_with(&held.key))
+        .count()
 }
 
-// Stores a key behind the first `count` entries, as the newest.
-pub fn store<K: Key>(xs: &mut [Entry<K>], count: usize, key: K, clock: u32)
-    requires { count < length xs.old }
-    ensures { take (count + 1) xs.new ≡ stored_last key clock (take count xs.old) }
+// Stores an entry as the newest, in the last place of the slice, which is free.
+pub fn store<K: Key>(xs: &mut [Entry<K>], entry: Entry<K>)
+    requires { 0 < length xs.old }
+    ensures { xs.new ≡ stored_last entry (take (length xs.old - 1) xs.old) }
 {
-    xs[count] = Entry { key, stored: clock };
+    let last = xs.len() - 1;
+    xs[last] = entry;
 }
 
 // Takes out the entry at `at`; those after it move one place down.
@@ -117,30 +105,28 @@ pub fn remove<K: Key>(xs: &mut [Entry<K>], at: usize)
 // The entry at `at` becomes the newest, stored at the clock.
 pub fn renew<K: Key>(xs: &mut [Entry<K>], at: usize, clock: u32)
     requires { at < length xs.old }
-    ensures { (d : Entry K) → xs.new ≡ stored_last (slice_index_or xs.old at d).key clock (remove xs.old at) }
+    ensures { (d : Entry K) → xs.new ≡ stored_last (entry (slice_index_or xs.old at d).key clock) (remove xs.old at) }
 {
-    let last = xs.len() - 1;
-    let found = xs[at];
+    let key = xs[at].key;
     remove(xs, at);
-    store(xs, last, found.key, clock);
+    store(xs, Entry { key, stored: clock });
 }
 
-// Takes out what was stored a period ago or more, and answers how many went.
+// Takes out what goes by expiry, and answers how many went.
 // The others stand at the start, in their order.
-pub fn expire<K: Key>(xs: &mut [Entry<K>], clock: u32, period: u32) -> usize
-    ensures count { result ≡ gone clock period xs.old }
+pub fn expire<K: Key>(xs: &mut [Entry<K>], expiry: Expiry) -> usize
+    ensures count { result ≡ gone expiry xs.old }
     ensures within { result ≤ length xs.old }
-    ensures after { take (length xs.old - result) xs.new ≡ left clock period xs.old }
+    ensures after { take (length xs.old - result) xs.new ≡ left expiry xs.old }
 {
-    let mut to = 0;
     let mut went = 0;
+    // Kept: a loop over the entries that tests each age and counts what goes, as was asked for; an iterator would borrow the slice that it writes.
     for i in 0..xs.len() {
-        let e = xs[i];
-        if e.is_old(clock, period) {
+        let entry = xs[i];
+        if expiry.takes(&entry) {
             went += 1;
         } else {
-            xs[to] = e;
-            to += 1;
+            xs[i - went] = entry;
         }
     }
     went

@@ -43,42 +43,39 @@ fn make_room<K: Key>(xs: &mut [Entry<K>], count: usize, most: usize, key: &K) ->
     ensures after { take result xs.new ≡ room_for K.grouped most (length xs.old) key.now (take count xs.old) }
 {
     let capacity = xs.len();
-    let all = &*xs;
-    match place_to_free(&all[0..count], most, capacity, key) {
+    match place_to_free(&xs[..count], most, capacity, key) {
         Some(at) => {
-            remove(&mut xs[0..count], at);
+            remove(&mut xs[..count], at);
             count - 1
         }
         None => count,
     }
 }
 
-// Remembers a key in the first `count` entries of a memory, and changes the count.
+// Remembers a key with its clock in the first `count` entries of a memory, and changes the count.
 // The slice is all the memory has: its length is the capacity.
 pub fn remember<K: Key>(
     xs: &mut [Entry<K>],
     count: &mut usize,
     most: usize,
-    key: K,
-    clock: u32,
+    entry: Entry<K>,
 ) -> Memory
     requires held { count.old ≤ length xs.old }
     requires some { 0 < length xs.old }
     requires group { 0 < most }
-    ensures answer { result ≡ memory_of K.same key (take count.old xs.old) }
-    ensures after { take count.new xs.new ≡ remembered K.same K.grouped most (length xs.old) key clock (take count.old xs.old) }
+    ensures answer { result ≡ memory_of K.eq entry.key (take count.old xs.old) }
+    ensures after { take count.new xs.new ≡ remembered K.eq K.grouped most (length xs.old) entry (take count.old xs.old) }
     ensures held { count.new ≤ length xs.old }
-    ensures apart { AtMost 1 K.same (take count.old xs.old) → AtMost 1 K.same (take count.new xs.new) }
+    ensures apart { AtMost 1 K.eq (take count.old xs.old) → AtMost 1 K.eq (take count.new xs.new) }
     ensures few { AtMost most K.grouped (take count.old xs.old) → AtMost most K.grouped (take count.new xs.new) }
 {
     let held = *count;
-    let all = &*xs;
-    if let Some(at) = find(&all[0..held], &key) {
-        renew(&mut xs[0..held], at, clock);
+    if let Some(at) = find(&xs[..held], &entry.key) {
+        renew(&mut xs[..held], at, entry.stored);
         return Memory::Known;
     }
-    let left = make_room(xs, held, most, &key);
-    store(xs, left, key, clock);
+    let left = make_room(xs, held, most, &entry.key);
     *count = left + 1;
+    store(&mut xs[..left + 1], entry);
     Memory::New
 }

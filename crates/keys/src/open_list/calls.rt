@@ -1,13 +1,13 @@
 // What can be done with the open list.
 ghost use Rattle.std.specs.Prelude.{◌≡◌, [], length, is_ok, if◌then◌else◌};
-ghost use Rattle.keys.specs.Entries.{place, Found, without, stored_last, gone, left};
+ghost use Rattle.keys.specs.Entries.{entry, place, Found, without, stored_last, gone, left};
 ghost use Rattle.keys.specs.Kinds.{same_pair};
 ghost use Rattle.keys.specs.Memory.{holds};
 ghost use Rattle.keys.specs.Lists.{opened, store_outcome};
 
 use super::{OpenList, StoreFault};
 use crate::numbers::*;
-use crate::{Entry, expire, find, remove, store};
+use crate::{Entry, Expiry, expire, find, remove, store};
 use warning::Pair;
 
 impl OpenList {
@@ -35,7 +35,7 @@ impl OpenList {
     pub fn entries(&self) -> &[Entry<Pair>]
         ensures { result.now ≡ opened self.now }
     {
-        &self.entries[0..self.count]
+        &self.entries[..self.count]
     }
 
     // Where the pair stands.
@@ -49,7 +49,7 @@ impl OpenList {
     // Stores a pair as the newest. A refusal leaves the list as it was.
     pub fn store(&mut self, pair: Pair, clock: u32) -> Result<(), StoreFault>
         ensures value { result ≡ store_outcome pair (opened self.old) }
-        ensures after { opened self.new ≡ (if is_ok result then stored_last pair clock (opened self.old) else opened self.old) }
+        ensures after { opened self.new ≡ (if is_ok result then stored_last (entry pair clock) (opened self.old) else opened self.old) }
     {
         if self.find(pair).is_some() {
             return Err(StoreFault::Known);
@@ -58,8 +58,12 @@ impl OpenList {
         if count >= OPEN_CAPACITY {
             return Err(StoreFault::Full);
         }
-        store(&mut self.entries, count, pair, clock);
-        self.count = count + 1;
+        let entry = Entry {
+            key: pair,
+            stored: clock,
+        };
+        store(&mut self.entries[..count + 1], entry);
+        self.count += 1;
         Ok(())
     }
 
@@ -72,8 +76,8 @@ impl OpenList {
             return false;
         };
         let count = self.count;
-        remove(&mut self.entries[0..count], at);
-        self.count = count - 1;
+        remove(&mut self.entries[..count], at);
+        self.count -= 1;
         true
     }
 
@@ -89,13 +93,13 @@ impl OpenList {
 
     // Removes what was stored a period ago or more, and answers how many went.
     // The others keep their order.
-    pub fn expire(&mut self, clock: u32, period: u32) -> usize
-        ensures count { result ≡ gone clock period (opened self.old) }
-        ensures after { opened self.new ≡ left clock period (opened self.old) }
+    pub fn expire(&mut self, expiry: Expiry) -> usize
+        ensures count { result ≡ gone expiry (opened self.old) }
+        ensures after { opened self.new ≡ left expiry (opened self.old) }
     {
         let count = self.count;
-        let gone = expire(&mut self.entries[0..count], clock, period);
-        self.count = count - gone;
+        let gone = expire(&mut self.entries[..count], expiry);
+        self.count -= gone;
         gone
     }
 }

@@ -1,6 +1,6 @@
 // What can be done with the remembered list.
 ghost use Rattle.std.specs.Prelude.{◌≡◌, [], length};
-ghost use Rattle.keys.specs.Entries.{gone, left};
+ghost use Rattle.keys.specs.Entries.{entry, gone, left};
 ghost use Rattle.keys.specs.Kinds.{same_network_pair, of_one_network};
 ghost use Rattle.keys.specs.Lists.{recalled};
 ghost use Rattle.keys.specs.Memory.{holds, remembered, memory_of};
@@ -10,7 +10,7 @@ use super::RememberedList;
 use crate::kinds::NetworkPair;
 use crate::memory::{Memory, remember};
 use crate::numbers::*;
-use crate::{Entry, expire, find};
+use crate::{Entry, Expiry, expire, find};
 use warning::Pair;
 use warning::network::Network;
 
@@ -45,7 +45,7 @@ impl RememberedList {
     pub fn entries(&self) -> &[Entry<NetworkPair>]
         ensures { result.now ≡ recalled self.now }
     {
-        &self.entries[0..self.count]
+        &self.entries[..self.count]
     }
 
     // Whether a primary is remembered.
@@ -59,23 +59,21 @@ impl RememberedList {
     // older of its network's two makes way, else the oldest of all in a full list.
     pub fn remember(&mut self, key: NetworkPair, clock: u32) -> Memory
         ensures answer { result ≡ memory_of same_network_pair key (recalled self.old) }
-        ensures after { recalled self.new ≡ remembered same_network_pair of_one_network most_of_network remembered_capacity key clock (recalled self.old) }
+        ensures after { recalled self.new ≡ remembered same_network_pair of_one_network most_of_network remembered_capacity (entry key clock) (recalled self.old) }
     {
-        let mut count = self.count;
-        let memory = remember(&mut self.entries, &mut count, MOST_OF_NETWORK, key, clock);
-        self.count = count;
-        memory
+        let entry = Entry { key, stored: clock };
+        remember(&mut self.entries, &mut self.count, MOST_OF_NETWORK, entry)
     }
 
     // Removes what was stored a period ago or more, and answers how many went.
     // The others keep their order.
-    pub fn expire(&mut self, clock: u32, period: u32) -> usize
-        ensures count { result ≡ gone clock period (recalled self.old) }
-        ensures after { recalled self.new ≡ left clock period (recalled self.old) }
+    pub fn expire(&mut self, expiry: Expiry) -> usize
+        ensures count { result ≡ gone expiry (recalled self.old) }
+        ensures after { recalled self.new ≡ left expiry (recalled self.old) }
     {
         let count = self.count;
-        let gone = expire(&mut self.entries[0..count], clock, period);
-        self.count = count - gone;
+        let gone = expire(&mut self.entries[..count], expiry);
+        self.count -= gone;
         gone
     }
 }

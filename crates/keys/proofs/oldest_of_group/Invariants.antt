@@ -1,8 +1,0 @@
-use Rattle.std.proofs.Common.{◌≡◌, drop}
-use Rattle.keys.specs.Entries.{place, first_from, like}
-use Rattle.keys.proofs.oldest_of_group.Given as goal
-
-abbrev pub invariant-loop-i : goal.invariant-loop-i
-invariant-loop-i g l =
-    let test = g.K.Key.grouped in
-    first_from (like test l.key) l.i (drop l.i l.xs) ≡ place test l.key l.xs
