@@ -62,7 +62,7 @@ impl OpenList {
             key: pair,
             stored: clock,
         };
-        store(&mut self.entries[..count + 1], entry);
+        store(&mut self.entries[0..count + 1], entry);
         self.count += 1;
         Ok(())
     }
@@ -76,7 +76,7 @@ impl OpenList {
             return false;
         };
         let count = self.count;
-        remove(&mut self.entries[..count], at);
+        remove(&mut self.entries[0..count], at);
         self.count -= 1;
         true
     }
@@ -98,7 +98,7 @@ impl OpenList {
         ensures after { opened self.new ≡ left expiry (opened self.old) }
     {
         let count = self.count;
-        let gone = expire(&mut self.entries[..count], expiry);
+        let gone = expire(&mut self.entries[0..count], expiry);
         self.count -= gone;
         gone
     }

@@ -72,7 +72,7 @@ impl RememberedList {
         ensures after { recalled self.new ≡ left expiry (recalled self.old) }
     {
         let count = self.count;
-        let gone = expire(&mut self.entries[..count], expiry);
+        let gone = expire(&mut self.entries[0..count], expiry);
         self.count -= gone;
         gone
     }

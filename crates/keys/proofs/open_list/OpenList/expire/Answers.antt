@@ -1,0 +1,11 @@
+use Rattle.std.proofs.Common.{take, arith}
+use native.Mathlib.Nat.{sub-zero}
+use Rattle.keys.specs.Kinds.{same_pair}
+use Rattle.keys.proofs.Counts.{at_most_front, at_most_kept}
+use Rattle.keys.proofs.open_list.OpenList.expire.Goals as goal
+
+pub invariant_of-self-clause-apart : goal.invariant_of-self-clause-apart
+invariant_of-self-clause-apart c =
+    let s = c.args.self.now in
+    let call = c.expire-gone in
+    at_most_front same_pair 1 s.count call.result s.entries call.new.xs _ (omega arith) call.auto.xs call.ensures.after (at_most_kept same_pair 1 _ (take s.count s.entries) s.apart)
