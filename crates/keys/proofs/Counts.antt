@@ -1,11 +1,11 @@
 -- How many entries are alike, after each change of a list.
-use Rattle.std.proofs.Common.{◌≡◌, ℕ, suc, ◌+◌, ◌-◌, ◌<◌, ◌≤◌, Bool, true, false, cond, not, leb, List, [], ◌∷◌, ◌++◌, length, get_or, take, drop, Some, None, Decides, count_by, filter, Option, sym, refl, ap, ◌∙◌, ⊎_elim, take-take, arith}
+use Rattle.std.proofs.Common.{◌≡◌, ℕ, suc, ◌+◌, ◌-◌, ◌<◌, ◌≤◌, Bool, true, false, cond, not, leb, List, [], ◌∷◌, ◌++◌, length, get_or, take, drop, is_some, Some, None, Decides, count_by, filter, Option, sym, refl, ap, ◌∙◌, ⊎_elim, take-take, arith}
 use Rattle.std.specs.Option.{option_or}
 use Rattle.std.specs.List.{remove, position, All}
 use Rattle.std.proofs.lemmas.List.Filters.{sum_by-filter_both}
 use Rattle.std.proofs.lemmas.List.Quantifiers.{position-Some}
 use Rattle.std.proofs.lemmas.List.Sums.{sum_by-cons, sum_by-append, sum_by_push, sum_by-take-drop, sum_by-remove, sum_by-take-le, sum_by-le, fails_before_first}
-use Rattle.std.proofs.lemmas.Bool.{cases_Bool, cond-true, cond-false, leb-true, leb-false}
+use Rattle.std.proofs.lemmas.Bool.{cases_Bool, cond-true, cond-false, leb-true, leb-false, true≢false}
 use Rattle.keys.specs.declared.Entry.{Entry}
 use Rattle.keys.specs.Entries.{like, place, count_of, without, stored_last}
 use Rattle.keys.specs.Memory.{makes_way, freed, remembered}
@@ -31,6 +31,10 @@ module _ {X : Type 0} (p : X → Bool) where
       let less : count_by p (take i (take (suc i) xs)) ≤ count_by p (take (suc i) xs) = sum_by-take-le f (take (suc i) xs) i in
       let front : count_by p (take i (take (suc i) xs)) ≡ count_by p (take i xs) = ap (count_by p) (take-take i (suc i) xs (omega arith)) in
       omega (arith, parts, whole, less, front)
+
+pub none_from_test : (o : Option ℕ) → is_some o ≡ false → o ≡ None
+none_from_test None e = refl
+none_from_test (Some i) e = absurd (true≢false e)
 
 -- q passes where p does
 module _ {X : Type 0} (p q : X → Bool) (wider : (x : X) → p x ≡ true → q x ≡ true) where

@@ -1,8 +1,8 @@
 -- What changes of a part of a slice leave.
-use Rattle.std.proofs.Common.{◌≡◌, ℕ, ◌-◌, ◌<◌, ◌≤◌, List, [], ◌∷◌, ◌++◌, length, take, drop, set, ◌∙◌, arith}
+use Rattle.std.proofs.Common.{◌≡◌, ℕ, ◌+◌, ◌-◌, ◌<◌, ◌≤◌, List, [], ◌∷◌, ◌++◌, length, take, drop, ap, ◌∙◌, take-take, arith}
 use borrow.Rule.Slice.PartMut.{put_mid}
 use Rattle.std.specs.List.{remove}
-use Rattle.std.proofs.lemmas.List.{length-take-le, take-append-le, take_at}
+use Rattle.std.proofs.lemmas.List.{length-append, length-take-le, take-append-le, take_at}
 use Rattle.std.proofs.lemmas.List.Edits.{length-remove}
 use Rattle.std.proofs.lemmas.Slice.{put_mid-rotated}
 
@@ -19,3 +19,11 @@ module _ {X : Type 0} where
   front_left n r items last ys h len e =
       let long = length-take-le n items h in
       take-append-le (n - r) last (drop n items) (omega arith) ∙ (rw long at e)
+
+  -- and where the place behind the first n took an element
+  pub stored_front : (n : ℕ) (items last : List X) (x : X) → n < length items → last ≡ take (length (take (n + 1) items) - 1) (take (n + 1) items) ++ x ∷ [] → take (n + 1) (last ++ drop (n + 1) items) ≡ take n items ++ x ∷ []
+  stored_front n items last x h e =
+      let less : length (take (n + 1) items) - 1 ≡ n = omega (arith, length-take-le (n + 1) items (omega arith)) in
+      let all : last ≡ take n items ++ x ∷ [] = e ∙ ap (λ ys. ys ++ x ∷ []) (rw less (take-take n (n + 1) items (omega arith))) in
+      let long = ap length all ∙ length-append (take n items) (x ∷ []) in
+      take_at last (drop (n + 1) items) (n + 1) (omega (arith, long, length-take-le n items (omega arith))) ∙ all

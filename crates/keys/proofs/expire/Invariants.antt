@@ -1,4 +1,4 @@
-use Rattle.std.proofs.Common.{◌≡◌, ◌+◌, ◌-◌, ◌≤◌, not}
+use Rattle.std.proofs.Common.{◌-◌, ◌≤◌, not}
 use Rattle.std.proofs.lemmas.List.Filters.{FiltersInPlace}
 use Rattle.keys.specs.Entries.{old}
 use Rattle.keys.proofs.expire.Given as goal

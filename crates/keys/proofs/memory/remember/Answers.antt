@@ -1,10 +1,11 @@
-use Rattle.std.proofs.Common.{length, take, drop, sym, refl, ap, ◌∙◌, arith, rules}
+use Rattle.std.proofs.Common.{length, take, drop, sym, refl, ap, ◌∙◌, arith}
 use Rattle.std.specs.List.{remove}
 use Rattle.std.specs.Option.{option_or}
 use Rattle.std.proofs.lemmas.List.{length-take-le, take_at}
 use Rattle.keys.specs.Entries.{entry, without, stored_last}
 use Rattle.keys.specs.Memory.{makes_way}
 use Rattle.keys.proofs.Counts.{apart_remembered, few_remembered}
+use Rattle.keys.proofs.Slices.{stored_front}
 use Rattle.keys.proofs.memory.remember.Goals as goal
 
 pub returns-in-Some : goal.returns-in-Some
@@ -38,13 +39,14 @@ returns g c =
     let most = c.args.most in
     let xs = c.args.xs.now in
     let held = take c.args.count.now xs in
-    let left = c.make_room-left.result in
     let way = makes_way grouped most (length xs) e.key held in
-    let after = ? in
+    let room = c.make_room-left in
+    let stored = stored_front room.result room.new.xs c.store.new.xs e (omega (arith, room.ensures.free, room.auto.xs)) c.store.ensures in
+    let after = stored ∙ ap (stored_last e) room.ensures.after ∙ ap (λ o. stored_last e (without (option_or o way) held)) c.in_default.ensures.value in
     record {
       answer = rw (sym c.in_default.ensures.value) refl;
       after = after;
-      held = omega (arith, c.make_room-left.ensures.free);
+      held = omega (arith, room.ensures.free);
       apart = λ h. rw after (apart_remembered same law.decides grouped law.itself law.together most (length xs) e held h);
       few = λ h. rw after (few_remembered same law.decides grouped law.itself law.together most (length xs) e held c.requires.group h);
     }

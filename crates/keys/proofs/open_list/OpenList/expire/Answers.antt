@@ -8,4 +8,4 @@ pub invariant_of-self-clause-apart : goal.invariant_of-self-clause-apart
 invariant_of-self-clause-apart c =
     let s = c.args.self.now in
     let call = c.expire-gone in
-    at_most_front same_pair 1 s.count call.result s.entries call.new.xs _ (omega arith) call.auto.xs call.ensures.after (at_most_kept same_pair 1 _ (take s.count s.entries) s.apart)
+    simp sub-zero (at_most_front same_pair 1 s.count call.result s.entries call.new.xs _ (omega arith) (simp sub-zero at call.auto.xs) (simp sub-zero at call.ensures.after) (at_most_kept same_pair 1 _ (take s.count s.entries) s.apart))
