@@ -14,7 +14,7 @@ use Rattle.keys.specs.Agree.{decides_network_pair, network_itself}
 use Rattle.instances.specs.Primaries.{answers, primary_of, FivePrimaries}
 
 -- one answer more
-pub answers_step : (clock : ℕ) (key : NetworkPair) (keys : List NetworkPair) (held next : List (Entry NetworkPair)) (r : Memory) (rs : List Memory) → r ≡ memory_of same_network_pair key held → next ≡ remembered same_network_pair of_one_network 2 12 key clock held → rs ≡ answers clock keys next → r ∷ rs ≡ answers clock (key ∷ keys) held
+pub answers_step : (clock : ℕ) (key : NetworkPair) (keys : List NetworkPair) (held next : List (Entry NetworkPair)) (r : Memory) (rs : List Memory) → r ≡ memory_of same_network_pair key held → next ≡ remembered same_network_pair of_one_network 2 12 (entry key clock) held → rs ≡ answers clock keys next → r ∷ rs ≡ answers clock (key ∷ keys) held
 answers_step clock key keys held next r rs a b e =
     ap (λ m. m ∷ rs) a ∙ ap (λ ms. memory_of same_network_pair key held ∷ ms) (e ∙ ap (answers clock keys) b)
 
@@ -24,19 +24,19 @@ module _ {K : Type 0} (same grouped : K → K → Bool) (clock : ℕ) (x y z : K
   pub second : memory_of same y (entry x clock ∷ []) ≡ New
   second = simp yx refl
 
-  pub second_list : remembered same grouped 2 12 y clock (entry x clock ∷ []) ≡ entry x clock ∷ entry y clock ∷ []
+  pub second_list : remembered same grouped 2 12 (entry y clock) (entry x clock ∷ []) ≡ entry x clock ∷ entry y clock ∷ []
   second_list = simp (yx, gyx) refl
 
   pub third : memory_of same x (entry x clock ∷ entry y clock ∷ []) ≡ Known
   third = simp xx refl
 
-  pub third_list : remembered same grouped 2 12 x clock (entry x clock ∷ entry y clock ∷ []) ≡ entry y clock ∷ entry x clock ∷ []
+  pub third_list : remembered same grouped 2 12 (entry x clock) (entry x clock ∷ entry y clock ∷ []) ≡ entry y clock ∷ entry x clock ∷ []
   third_list = simp xx refl
 
   pub fourth : memory_of same z (entry y clock ∷ entry x clock ∷ []) ≡ New
   fourth = simp (zy, zx) refl
 
-  pub fourth_list : remembered same grouped 2 12 z clock (entry y clock ∷ entry x clock ∷ []) ≡ entry x clock ∷ entry z clock ∷ []
+  pub fourth_list : remembered same grouped 2 12 (entry z clock) (entry y clock ∷ entry x clock ∷ []) ≡ entry x clock ∷ entry z clock ∷ []
   fourth_list = simp (zy, zx, gzy, gzx) refl
 
   pub fifth : memory_of same y (entry x clock ∷ entry z clock ∷ []) ≡ New

@@ -6,6 +6,7 @@ use Rattle.keys.specs.declared.Entry.{Entry}
 use Rattle.keys.specs.declared.kinds.NetworkPair.{NetworkPair}
 use Rattle.keys.specs.declared.memory.Memory.{Memory}
 use Rattle.keys.specs.declared.memory.Memory.TheVariants.{Known, New}
+use Rattle.keys.specs.Entries.{entry}
 use Rattle.keys.specs.Kinds.{same_network_pair, of_one_network}
 use Rattle.keys.specs.Memory.{memory_of, remembered}
 use Rattle.keys.specs.Numbers.{most_of_network, remembered_capacity}
@@ -15,7 +16,7 @@ abbrev pub answers : ℕ → List NetworkPair → List (Entry NetworkPair) → L
 answers clock [] held = []
 answers clock (key ∷ keys) held =
     memory_of same_network_pair key held
-    ∷ answers clock keys (remembered same_network_pair of_one_network most_of_network remembered_capacity key clock held)
+    ∷ answers clock keys (remembered same_network_pair of_one_network most_of_network remembered_capacity (entry key clock) held)
 
 abbrev pub primary_of : Network → Pair → NetworkPair
 primary_of network pair = record { network = network; pair = pair }

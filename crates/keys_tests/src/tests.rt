@@ -1,4 +1,5 @@
 // Edges of the two lists.
+use keys::Expiry;
 use keys::kinds::NetworkPair;
 use keys::memory::Memory;
 use keys::numbers::EXPIRY_PERIOD;
@@ -23,6 +24,13 @@ fn primary(mcc: u16, digits: u8, serial: u16) -> Result<NetworkPair, Fail> {
     Ok(NetworkPair { network, pair })
 }
 
+fn three_hours_at(clock: u32) -> Expiry {
+    Expiry {
+        clock,
+        period: EXPIRY_PERIOD,
+    }
+}
+
 #[test]
 fn eight_are_open(rt: HostRuntime) {
     let mut open = OpenList::new();
@@ -44,9 +52,16 @@ fn an_entry_goes_at_the_period(rt: HostRuntime) {
     let mut open = OpenList::new();
     assert_eq!(rt; open.store(pair(1), 100), Ok(()));
     assert_eq!(rt; open.store(pair(2), 101), Ok(()));
-    assert_eq!(rt; open.expire(0, 1), 0, "stored after the clock");
-    assert_eq!(rt; open.expire(99 + EXPIRY_PERIOD, EXPIRY_PERIOD), 0);
-    assert_eq!(rt; open.expire(100 + EXPIRY_PERIOD, EXPIRY_PERIOD), 1);
+    assert_eq!(rt;
+        open.expire(Expiry {
+            clock: 0,
+            period: 1
+        }),
+        0,
+        "stored after the clock"
+    );
+    assert_eq!(rt; open.expire(three_hours_at(99 + EXPIRY_PERIOD)), 0);
+    assert_eq!(rt; open.expire(three_hours_at(100 + EXPIRY_PERIOD)), 1);
     assert_eq!(rt; open.find(pair(2)), Some(0));
 }
 
