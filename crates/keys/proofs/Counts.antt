@@ -4,7 +4,7 @@ use Rattle.std.specs.Option.{option_or}
 use Rattle.std.specs.List.{remove, position, All}
 use Rattle.std.proofs.lemmas.List.Filters.{sum_by-filter_both}
 use Rattle.std.proofs.lemmas.List.Quantifiers.{position-Some}
-use Rattle.std.proofs.lemmas.List.Sums.{sum_by-cons, sum_by-append, sum_by_push, sum_by-take-drop, sum_by-remove, sum_by-take-le, sum_by-le, fails_before_first}
+use Rattle.std.proofs.lemmas.List.Sums.{sum_by-append, sum_by_push, sum_by-take-drop, sum_by-remove, sum_by-take-le, sum_by-le, sum_by-le-sum_by, fails_before_first}
 use Rattle.std.proofs.lemmas.Bool.{cases_Bool, cond-true, cond-false, leb-true, leb-false, true≢false}
 use Rattle.keys.specs.declared.Entry.{Entry}
 use Rattle.keys.specs.Entries.{like, place, count_of, without, stored_last}
@@ -63,21 +63,12 @@ module _ {K : Type 0} (test : K → K → Bool) where
   pub at_most_without : (n : ℕ) (o : Option ℕ) (xs : List (Entry K)) → AtMost n test xs → AtMost n test (without o xs)
   at_most_without n o xs h = λ key. omega (arith, h key, count-without (like test key) o xs)
 
-  count_alike : (k l : K) → ((z : K) → test k z ≡ test l z) → (xs : List (Entry K)) → count_of test k xs ≡ count_of test l xs
-  count_alike k l alike [] = refl
-  count_alike k l alike (x ∷ xs) =
-      let a = sum_by-cons (λ y. cond (like test k y) 1 0) x xs in
-      let b = sum_by-cons (λ y. cond (like test l y) 1 0) x xs in
-      let here : cond {A = ℕ} (test k x.key) 1 0 ≡ cond (test l x.key) 1 0 = ap (λ t. cond {A = ℕ} t 1 0) (alike x.key) in
-      let rest = count_alike k l alike xs in
-      omega (arith, a, b, here, rest)
-
   pub at_most_stored : ((x y z : K) → test x y ≡ true → test x z ≡ test y z) → (n : ℕ) (e : Entry K) (xs : List (Entry K)) → AtMost n test xs → count_of test e.key xs < n → AtMost n test (stored_last e xs)
   at_most_stored together n e xs h less = λ k.
       let more = sum_by_push (λ y. cond (like test k y) 1 0) xs e in
       ⊎_elim
       (λ t. let one = cond-true {A = ℕ} (test k e.key) 1 0 t in
-      let alike = count_alike k e.key (λ z. together k e.key z t) xs in
+      let alike = sum_by-le-sum_by (λ y. cond (like test k y) 1 0) (λ y. cond (like test e.key y) 1 0) xs (λ y. rw (together k e.key y.key t) (omega arith)) in
       omega (arith, more, one, alike, less))
       (λ f. let none = cond-false {A = ℕ} (test k e.key) 1 0 f in
       omega (arith, more, none, h k))

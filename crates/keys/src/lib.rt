@@ -120,7 +120,7 @@ pub fn expire<K: Key>(xs: &mut [Entry<K>], expiry: Expiry) -> usize
     ensures after { take (length xs.old - result) xs.new ≡ left expiry xs.old }
 {
     let mut went = 0;
-    // Kept: a loop over the entries that tests each age and counts what goes, as was asked for; an iterator would borrow the slice that it writes.
+    // Kept: a loop that tests each age and counts what goes was asked for; an iterator would hold the slice that it writes.
     for i in 0..xs.len() {
         let entry = xs[i];
         if expiry.takes(&entry) {

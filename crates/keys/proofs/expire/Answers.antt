@@ -13,11 +13,12 @@ loop-i-preserved g c =
     let went = c.loop-i.went in
     let inv = c.loop-i.invariant in
     let len = c.loop-i.auto.xs in
+    let gone = old c.args.expiry c.index-xs-i.result in
     let gap : i + 1 - (went + 1) ≡ i - went = omega arith in
     let next : i + 1 - went ≡ i - went + 1 = omega arith in
     elim c.if-takes.branch [
-      | then-takes w ↦ (rw (w.xs-is, w.went-is, gap) (FiltersInPlace-more_no inv.0 (omega arith) (not_from_true _ (sym w.if-takes.ensures)) c.index-xs-i.is), omega (arith, w.went-is))
-      | else-takes w ↦ (rw (w.xs-is, w.went-is, next) (FiltersInPlace-more_set inv.0 (omega arith) (not_from_false _ (sym w.if-takes.ensures)) c.index-xs-i.is), omega (arith, w.went-is))
+      | then-takes w ↦ (rw (w.xs-is, w.went-is, gap) (FiltersInPlace-more_no inv.0 (omega arith) (not_from_true gone (sym {b = gone} w.if-takes.ensures)) c.index-xs-i.is), omega (arith, w.went-is))
+      | else-takes w ↦ (rw (w.xs-is, w.went-is, next) (FiltersInPlace-more_set inv.0 (omega arith) (not_from_false gone (sym {b = gone} w.if-takes.ensures)) c.index-xs-i.is), omega (arith, w.went-is))
     ]
 
 pub returns : goal.returns
