@@ -7,4 +7,4 @@ use Rattle.keys.proofs.open_list.OpenList.remove.Goals as goal
 pub invariant_of-self-clause-apart : goal.invariant_of-self-clause-apart
 invariant_of-self-clause-apart c =
     let s = c.args.self.now in
-    simp sub-zero (at_most_front same_pair 1 s.count 1 s.entries c.remove.new.xs _ (omega arith) (simp sub-zero at c.remove.auto.xs) (simp sub-zero at c.remove.ensures) (at_most_without same_pair 1 (Some _) (take s.count s.entries) s.apart))
+    simp sub-zero (at_most_front same_pair 1 s.count 1 s.entries c.remove.new.xs _ (omega arith) (simp sub-zero at c.remove.auto.xs) (simp sub-zero at c.remove.ensures) (at_most_without same_pair 1 (Some c.in-Some.at) (take s.count s.entries) s.apart))
