@@ -1,63 +1,51 @@
--- Judging and copying a body, one data command at a time.
-use Rattle.std.proofs.Common.{◌≡◌, ℕ, ◌+◌, ◌-◌, ◌<◌, ◌≤◌, min, List, [], ◌++◌, length, Ok, Err, sym, refl, ap, ◌∙◌, arith}
-use Rattle.std.proofs.lemmas.List.{length-append}
+-- Handing on the octets of a part, one data command at a time.
+use Rattle.std.proofs.Common.{◌≡◌, ℕ, ◌+◌, ◌-◌, ◌<◌, ◌≤◌, min, List, [], ◌++◌, length, Ok, Err, Result, sym, refl, ap, ◌∙◌, arith}
+use Rattle.std.proofs.lemmas.List.{length-append, append-nil, drop_all}
 use Rattle.octets.specs.Octets.{written}
-use Rattle.octets.proofs.Writes.{written_none, written-written, length-written}
 use Rattle.tape.specs.declared.fault.TapeFault.{TapeFault}
-use Rattle.tape.specs.Reading.{Place, part, data_operands}
+use Rattle.tape.specs.Heads.{Passed}
+use Rattle.tape.specs.Reading.{Place, Read, part, data_operands}
 use Rattle.tape.proofs.Takes.{data_ok}
 use Rattle.tape.proofs.Gathers.{prefixed, gather_start, gather_more, gather_err, gather_end}
 
--- a part of which some octets have been judged, and `left` are still to come
-pub record Skipping (count : ℕ) (p₀ : Place) (left : ℕ) (p : Place) : Type 0 where
-  pub judged : List ℕ
-  pub read : prefixed judged (part left p) ≡ part count p₀
+-- a part of which some octets have been handed on, and `left` are still to come
+pub record Handing (took : List ℕ → Type 0) (count : ℕ) (p₀ : Place) (left : ℕ) (p : Place) : Type 0 where
+  pub handed : List ℕ
+  pub read : prefixed handed (part left p) ≡ part count p₀
+  pub counted : length handed + left ≡ count
+  pub taken : took handed
 
-pub skipping_start : (count : ℕ) (p₀ : Place) → Skipping count p₀ count p₀
-skipping_start count p₀ = record { judged = []; read = gather_start count p₀ [] refl }
+module _ (took : List ℕ → Type 0) (count : ℕ) (p₀ : Place) where
+  pub handing_start : (left : ℕ) → left ≡ count → took [] → Handing took count p₀ left p₀
+  handing_start left e t =
+      record { handed = []; read = ap (λ n. prefixed [] (part n p₀)) e ∙ gather_start count p₀ [] refl; counted = omega arith; taken = t }
 
-pub skipping_more : (left left₁ n count : ℕ) (p₀ p q : Place) (ys : List ℕ) → 0 < left → n ≡ min 32 left → left₁ ≡ left - n → Ok (ys, q) ≡ data_operands n p → Skipping count p₀ left p → Skipping count p₀ left₁ q
-skipping_more left left₁ n count p₀ p q ys h e l d s =
-    record { judged = s.judged ++ ys; read = gather_more left left₁ n p q s.judged ys (s.judged ++ ys) (part count p₀) h e l d refl s.read }
+  pub handing_more : (more : List ℕ → Type 0) (left left₁ n : ℕ) (p q : Place) (ys : List ℕ) → 0 < left → n ≡ min 32 left → left₁ ≡ left - n → Ok (ys, q) ≡ data_operands n p → ((xs : List ℕ) → length xs + length ys ≤ count → took xs → more (xs ++ ys)) → Handing took count p₀ left p → Handing more count p₀ left₁ q
+  handing_more more left left₁ n p q ys h e l d step s =
+      let long = (data_ok n p ys q (omega arith) (sym d)).0 in
+      let both = length-append s.handed ys in
+      record {
+        handed = s.handed ++ ys;
+        read = gather_more left left₁ n p q s.handed ys (s.handed ++ ys) (part count p₀) h e l d refl s.read;
+        counted = omega (arith, s.counted);
+        taken = step s.handed (omega (arith, s.counted)) s.taken;
+      }
 
-pub skipping_err : (left n count : ℕ) (p₀ p : Place) (f : TapeFault) → 0 < left → n ≡ min 32 left → Err f ≡ data_operands n p → Skipping count p₀ left p → part count p₀ ≡ Err f
-skipping_err left n count p₀ p f h e d s = gather_err left n p s.judged f (part count p₀) h e d s.read
+  pub handing_err : (left n : ℕ) (p : Place) (f : TapeFault) → 0 < left → n ≡ min 32 left → Err f ≡ data_operands n p → Handing took count p₀ left p → part count p₀ ≡ Err f
+  handing_err left n p f h e d s = gather_err left n p s.handed f (part count p₀) h e d s.read
 
-pub skipping_end : (left count : ℕ) (p₀ p : Place) → left ≡ 0 → Skipping count p₀ left p → (xs : List ℕ) × (part count p₀ ≡ Ok (xs, p))
-skipping_end left count p₀ p h s = (s.judged, gather_end left p s.judged (part count p₀) h s.read)
+  pub handing_end : (left : ℕ) (p : Place) → left ≡ 0 → Handing took count p₀ left p → (xs : List ℕ) × (part count p₀ ≡ Ok (xs, p)) × took xs
+  handing_end left p h s = (s.handed, gather_end left p s.handed (part count p₀) h s.read, s.taken)
 
--- a part of which some octets have been copied to a memory, and `left` are still to come
-pub record Copying (count : ℕ) (p₀ : Place) (at : ℕ) (m₀ : List ℕ) (left : ℕ) (p : Place) (next : ℕ) (m : List ℕ) : Type 0 where
-  pub copied : List ℕ
-  pub read : prefixed copied (part left p) ≡ part count p₀
-  pub stood : next ≡ at + length copied
-  pub counted : length copied + left ≡ count
-  pub is : m ≡ written at copied m₀
+-- the octets of a data command
+pub data_long : (n : ℕ) (p : Place) (ys : List ℕ) (q : Place) → n ≤ 32 → Ok (ys, q) ≡ data_operands n p → length ys ≡ n
+data_long n p ys q h e = (data_ok n p ys q h (sym e)).0
 
-pub copying_start : (count : ℕ) (p₀ : Place) (at : ℕ) (m₀ : List ℕ) → Copying count p₀ at m₀ count p₀ at m₀
-copying_start count p₀ at m₀ = record { copied = []; read = gather_start count p₀ [] refl; stood = omega arith; counted = omega arith; is = sym (written_none m₀ at) }
+-- what is handed on, by what the sink makes of it
+pub passed_so : {X : Type 0} (octets_in : X → List ℕ) (r : Read X) (taken more : List ℕ → Type 0) (res : Result (Unit {0}) TapeFault) (q : Place) → ((x : X) → r ≡ Ok (x, q) → taken (octets_in x) → more (octets_in x)) → Passed octets_in r taken res q → Passed octets_in r more res q
+passed_so octets_in r taken more (Ok u) q step s = (s.0, s.1, step s.0 s.1 s.2)
+passed_so octets_in r taken more (Err f) q step s = s
 
-pub piece_long : (n : ℕ) (p : Place) (ys : List ℕ) (q : Place) → n ≤ 32 → Ok (ys, q) ≡ data_operands n p → length ys ≡ n
-piece_long n p ys q h e = (data_ok n p ys q h (sym e)).0
-
-pub copying_long : (count : ℕ) (p₀ : Place) (at : ℕ) (m₀ : List ℕ) (left : ℕ) (p : Place) (next : ℕ) (m : List ℕ) → at + count ≤ length m₀ → Copying count p₀ at m₀ left p next m → (length m ≡ length m₀) × (next + left ≡ at + count)
-copying_long count p₀ at m₀ left p next m fit c =
-    (ap length c.is ∙ length-written m₀ c.copied at (omega (arith, c.counted)), omega (arith, c.counted, c.stood))
-
-pub copying_more : (left left₁ n count : ℕ) (p₀ : Place) (at : ℕ) (m₀ : List ℕ) (p q : Place) (next next₁ : ℕ) (m m₁ ys : List ℕ) → 0 < left → n ≡ min 32 left → left₁ ≡ left - n → Ok (ys, q) ≡ data_operands n p → next₁ ≡ next + length ys → m₁ ≡ written next ys m → at + count ≤ length m₀ → Copying count p₀ at m₀ left p next m → Copying count p₀ at m₀ left₁ q next₁ m₁
-copying_more left left₁ n count p₀ at m₀ p q next next₁ m m₁ ys h e l d k w fit c =
-    let long = piece_long n p ys q (omega arith) d in
-    let both = length-append c.copied ys in
-    record {
-      copied = c.copied ++ ys;
-      read = gather_more left left₁ n p q c.copied ys (c.copied ++ ys) (part count p₀) h e l d refl c.read;
-      stood = omega (arith, c.stood);
-      counted = omega (arith, c.counted);
-      is = w ∙ ap (written next ys) c.is ∙ written-written m₀ c.copied ys at next c.stood (omega (arith, c.stood, c.counted));
-    }
-
-pub copying_err : (left n count : ℕ) (p₀ : Place) (at : ℕ) (m₀ : List ℕ) (p : Place) (next : ℕ) (m : List ℕ) (f : TapeFault) → 0 < left → n ≡ min 32 left → Err f ≡ data_operands n p → Copying count p₀ at m₀ left p next m → part count p₀ ≡ Err f
-copying_err left n count p₀ at m₀ p next m f h e d c = gather_err left n p c.copied f (part count p₀) h e d c.read
-
-pub copying_end : (left count : ℕ) (p₀ : Place) (at : ℕ) (m₀ : List ℕ) (p : Place) (next : ℕ) (m : List ℕ) → left ≡ 0 → Copying count p₀ at m₀ left p next m → (xs : List ℕ) × (part count p₀ ≡ Ok (xs, p)) × (m ≡ written at xs m₀)
-copying_end left count p₀ at m₀ p next m h c = (c.copied, gather_end left p c.copied (part count p₀) h c.read, c.is)
+-- a memory that is filled from its start
+pub written_whole : (xs memory : List ℕ) → length xs ≡ length memory → written 0 xs memory ≡ xs
+written_whole xs memory h = ap (λ z. xs ++ z) (drop_all (0 + length xs) memory (omega arith)) ∙ append-nil xs

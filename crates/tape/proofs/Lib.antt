@@ -15,3 +15,4 @@ pub mod Ends
 pub mod Outcomes
 pub mod Judgements
 pub mod Continued
+mod Flags

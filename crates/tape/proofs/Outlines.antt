@@ -1,5 +1,5 @@
 -- Reading a head: what a command octet tells, and that the outline is one of a warning.
-use Rattle.std.proofs.Common.{◌≡◌, ℕ, ◌≤◌, Bool, true, false, cond, not, ◌&&◌, eqb, leb, length, replicate, is_some, Some, None, Ok, Err, sym, refl, ap, ◌∙◌, ⊎_elim, arith}
+use Rattle.std.proofs.Common.{◌≡◌, ℕ, ◌≤◌, Bool, true, false, cond, not, ◌&&◌, eqb, leb, length, replicate, is_some, IfOk, Some, None, Ok, Err, Result, sym, refl, ap, ◌∙◌, ⊎_elim, arith}
 use Rattle.std.proofs.lemmas.List.{length-replicate}
 use Rattle.std.proofs.lemmas.Bool.{eq-eqb, ne_eqb, cond-true, cond-false, leb-true, and_from}
 use Rattle.std.specs.Option.{option_map}
@@ -7,7 +7,9 @@ use Rattle.warning.specs.declared.Pair.{Pair}
 use Rattle.warning.specs.declared.Warning.{Warning}
 use Rattle.warning.specs.declared.Warning.TheVariants.{Primary, Message}
 use Rattle.warning.specs.Rules.{carries_message, without_area, limit, total, is_warning, right_security}
+use Rattle.tape.specs.declared.fault.TapeFault.{TapeFault}
 use Rattle.tape.specs.declared.fault.TapeFault.TheVariants.{Unknown}
+use Rattle.tape.specs.Cursors.{gave}
 use Rattle.tape.specs.Heads.{primary_outline, message_outline, outline_by, head}
 use Rattle.tape.specs.Reading.{Place, octet, number, number_to, pair_operands, present, most_flag, most_area}
 use Rattle.tape.proofs.Takes.{then_elim, ok_parts, octet_ok, number_to_ok}
@@ -72,3 +74,12 @@ head_right p o q e =
     (λ h. primary_right r o q h.1)
     (λ h. message_right r o q h.1)
     (one_of_two (eqb command 0x50) (eqb command 0x4D) (primary_outline r) (message_outline r) (Unknown p.at) (o, q) k))
+
+-- the same, as the code reads it
+pub primary_gives : (r : Result (Warning ℕ) TapeFault) (p q : Place) → gave r q ≡ primary_outline p → IfOk r (λ o. is_warning o ≡ true)
+primary_gives (Ok o) p q e = primary_right p o q (sym e)
+primary_gives (Err f) p q e = tt
+
+pub message_gives : (r : Result (Warning ℕ) TapeFault) (p q : Place) → gave r q ≡ message_outline p → IfOk r (λ o. is_warning o ≡ true)
+message_gives (Ok o) p q e = message_right p o q (sym e)
+message_gives (Err f) p q e = tt

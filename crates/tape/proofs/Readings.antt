@@ -1,5 +1,5 @@
 -- What a head, a body and a whole warning give, by what their parts gave, and the other way round.
-use Rattle.std.proofs.Common.{◌≡◌, ℕ, List, ◌++◌, length, take, drop, Some, None, Ok, Err, Option, Result, unwrap_or, sym, refl, ap, ◌∙◌, arith}
+use Rattle.std.proofs.Common.{◌≡◌, ℕ, List, ◌++◌, length, take, drop, Some, None, Ok, Err, Option, Result, unwrap_or, sym, refl, ap, ◌∙◌, subst, arith}
 use Rattle.std.proofs.lemmas.List.{nil_from_length}
 use Rattle.std.specs.Option.{option_map}
 use Rattle.warning.specs.declared.Pair.{Pair}
@@ -8,7 +8,10 @@ use Rattle.warning.specs.declared.Warning.TheVariants.{Primary, Message}
 use Rattle.warning.specs.Contents.{octets, part_octets}
 use Rattle.warning.specs.Notice.{Notice, outline}
 use Rattle.tape.specs.declared.fault.TapeFault.{TapeFault}
-use Rattle.tape.specs.Heads.{head, body}
+use Rattle.tape.specs.declared.fault.ReadError.{ReadError}
+use Rattle.tape.specs.declared.fault.ReadError.TheVariants.{Fault, Memory}
+use Rattle.tape.specs.Cursors.{Agrees}
+use Rattle.tape.specs.Heads.{head, body, Passed}
 use Rattle.tape.specs.Reading.{Place, Read, operand, all_zero, part, entry}
 use Rattle.tape.proofs.Takes.{then_elim, then_is, ok_parts}
 use Rattle.tape.proofs.Splits.{then_err}
@@ -60,7 +63,7 @@ module _ (block : ℕ) (pair : Pair) (coding m : ℕ) (area : Option ℕ) (p : P
   message_read xs ys r q e k = then_is (part m p) _ xs r e ∙ then_is (part (unwrap_or area 0) r) _ ys q k
 
 -- the octets of a primary, and of a message
-security_octets_taken : (security : Option ℕ) (xs : List ℕ) → part_octets (option_map (λ n. take n xs) security) ≡ take (unwrap_or security 0) xs
+pub security_octets_taken : (security : Option ℕ) (xs : List ℕ) → part_octets (option_map (λ n. take n xs) security) ≡ take (unwrap_or security 0) xs
 security_octets_taken None xs = refl
 security_octets_taken (Some n) xs = refl
 
@@ -83,3 +86,32 @@ message_of block pair coding m area p w q e =
     let is = ok_parts (Message block pair coding xs (option_map (λ n. ys) area)) w s q k₂ in
     let same = area_octets area ys (part_ok (unwrap_or area 0) r ys s e₂).0 in
     (xs, ys, r, e₁, e₂ ∙ ap (λ z. Ok (ys, z)) is.1, ap (λ z. xs ++ z) (sym same) ∙ ap octets is.0)))
+
+-- a body whose octets are handed on
+module _ (o : (Warning ℕ)) (p : Place) (taken : List ℕ → Type 0) where
+  pub primary_handed : (pair : Pair) (t : ℕ) (security : Option ℕ) (xs : List ℕ) (q : Place) → o ≡ Primary pair t security → security_read security p ≡ Ok (xs, q) → taken (take (unwrap_or security 0) xs) → Passed octets (body o p) taken (Ok tt) q
+  primary_handed pair t security xs q is e got =
+      (Primary pair t (option_map (λ n. take n xs) security), ap (λ z. body z p) is ∙ primary_read pair t security p xs q e, subst taken (sym (security_octets_taken security xs)) got)
+
+  pub both_handed : (block : ℕ) (pair : Pair) (coding m : ℕ) (area : Option ℕ) (n : ℕ) (xs : List ℕ) (r q : Place) (second : List ℕ → Type 0) (res : Result (Unit {0}) TapeFault) → o ≡ Message block pair coding m area → part m p ≡ Ok (xs, r) → n ≡ unwrap_or area 0 → ((ys : List ℕ) → length ys ≡ n → second ys → taken (xs ++ ys)) → Passed (λ ys. ys) (part n r) second res q → Passed octets (body o p) taken res q
+  both_handed block pair coding m area n xs r q second (Ok u) is e k step s =
+      let ys = s.0 in
+      let long = (part_ok n r ys q s.1).0 in
+      let same = area_octets area ys (long ∙ k) in (
+        Message block pair coding xs (option_map (λ z. ys) area),
+        ap (λ z. body z p) is ∙ message_read block pair coding m area p xs ys r q e (ap (λ z. part z r) (sym k) ∙ s.1),
+        subst (λ z. taken (xs ++ z)) (sym same) (step ys long s.2),
+      )
+  both_handed block pair coding m area n xs r q second (Err f) is e k step s =
+      ap (λ z. body z p) is ∙ area_refused block pair coding m area p xs r f e (ap (λ z. part z r) (sym k) ∙ s)
+
+-- an answer that memory may keep from being given
+pub agrees_same : {X Y : Type 0} (f : X → Y) (r s : Read Y) (x : Result X ReadError) (q : Place) → r ≡ s → Agrees f s x q → Agrees f r x q
+agrees_same f r s (Ok x) q e h = e ∙ h
+agrees_same f r s (Err (Fault g)) q e h = e ∙ h
+agrees_same f r s (Err Memory) q e h = tt
+
+-- an error that is passed on: a refusal, or want of memory
+pub agrees_err : {X Y V W : Type 0} (f : X → Y) (g : V → W) (r : Read Y) (s : Read W) (e : ReadError) (p q : Place) → ((h : TapeFault) → r ≡ Err h → s ≡ Err h) → Agrees f r (Err e) p → Agrees g s (Err e) q
+agrees_err f g r s (Fault h) p q k a = k h a
+agrees_err f g r s Memory p q k a = tt

@@ -3,13 +3,10 @@ use Rattle.std.proofs.Common.{◌≡◌, ℕ, ◌+◌, ◌-◌, ◌*◌, ◌^◌
 use Rattle.std.proofs.lemmas.List.{take_all, take_rest, drop_all, get_or-take, length-take, length-drop, get_or_past, at_drop_more}
 use Rattle.std.proofs.lemmas.Slice.{between_is}
 use Rattle.std.proofs.lemmas.Bool.{le-ltb, lt-ltb, le-leb, lt-leb, eq-eqb, ne_eqb, cases_lt}
+use Rattle.std.specs.List.{list_all}
 use Rattle.octets.specs.Octets.{two_at}
 use Rattle.tape.specs.declared.fault.TapeFault.{TapeFault}
 use Rattle.tape.specs.declared.fault.TapeFault.TheVariants.{Unknown, Ended}
-use Rattle.tape.specs.declared.cursor.Cursor.{Cursor}
-use Rattle.tape.specs.declared.fault.ReadError.{ReadError}
-use Rattle.tape.specs.declared.fault.ReadError.TheVariants.{Fault, Memory}
-use Rattle.tape.specs.Cursors.{Agrees}
 use Rattle.tape.specs.Reading.{Place, place, Read, then, operand, first_is, octet, of_number, number, number_to, all_zero, security_operand, primary_operands, message_operands, by_command, entry}
 use Rattle.tape.proofs.Takes.{then_is}
 
@@ -140,52 +137,24 @@ number_to-first most at v t h l e k =
     ∙ ap (λ z. Ok (z, place (at + 2) (drop 2 t))) (value_taken t ∙ sym e)
     ∙ ap (λ z. Ok (v, place (at + 2) z)) (sym (take_rest t 2))
 
-take_same : (w here : ℕ) (t : List ℕ) → here ≡ min w (length t) → take w t ≡ take here t
-take_same w here t h =
-    ⊎_elim
-    (λ s. let e : here ≡ w = omega arith in rw e)
-    (λ s. take_all w t s ∙ sym (take_all here t (omega arith)))
-    (cases_lt w (length t))
+-- zeros, as a test of each octet finds them
+all_zero_is : (xs : List ℕ) → all_zero xs ≡ list_all (λ x. eqb x 0) xs
+all_zero_is [] = refl
+all_zero_is (x ∷ xs) = ap (λ b. eqb x 0 && b) (all_zero_is xs)
 
-sub_same : (n : ℕ) → n - n ≡ 0
-sub_same n = omega arith
+-- octets of a width, of which all past a count are zeros
+abbrev zeros_past : ℕ → List ℕ → Bool
+zeros_past count xs = all_zero (drop count xs)
 
--- zeros past a count, in the part of the operand that is there
-pub zeros_here : (w count here past : ℕ) (t : List ℕ) → here ≡ min w (length t) → past ≡ min count here → all_zero (take (here - past) (drop past t)) ≡ all_zero (drop count (take w t))
-zeros_here w count here past t h k =
-    let same : take w t ≡ take here t = take_same w here t h in
-    ap all_zero
-    (⊎_elim
-    (λ s.
-    let p : past ≡ here = omega arith in
-    let long = length-take here t in
-    let none : drop count (take here t) ≡ [] = drop_all count (take here t) (omega arith) in
-    let left : take (here - past) (drop past t) ≡ [] = rw p (ap (λ n. take n (drop here t)) (sub_same here)) in
-    left ∙ sym none ∙ ap (drop count) (sym same))
-    (λ s.
-    let p : past ≡ count = omega arith in
-    ap (λ n. take (here - n) (drop n t)) p ∙ between_is t count here ∙ ap (drop count) (sym same))
-    (cases_lt here count))
+module _ (w count at : ℕ) (t : List ℕ) where
+  pub padded_wrong : list_all (λ x. eqb x 0) (drop count (take w t)) ≡ false → operand w (zeros_past count) (place at t) ≡ Err (Unknown at)
+  padded_wrong e = operand_wrong w (zeros_past count) at t (all_zero_is (drop count (take w t)) ∙ e)
 
-pub padded_wrong : (w count here past at : ℕ) (t : List ℕ) → here ≡ min w (length t) → past ≡ min count here → all_zero (take (here - past) (drop past t)) ≡ false → operand w (λ xs. all_zero (drop count xs)) (place at t) ≡ Err (Unknown at)
-padded_wrong w count here past at t h k e = operand_wrong w (λ xs. all_zero (drop count xs)) at t (sym (zeros_here w count here past t h k) ∙ e)
+  pub padded_short : list_all (λ x. eqb x 0) (drop count (take w t)) ≡ true → length t < w → operand w (zeros_past count) (place at t) ≡ Err (Ended (at + length t))
+  padded_short e l = operand_short w (zeros_past count) at t (all_zero_is (drop count (take w t)) ∙ e) l
 
-pub padded_short : (w count here past at : ℕ) (t : List ℕ) → here ≡ min w (length t) → past ≡ min count here → all_zero (take (here - past) (drop past t)) ≡ true → here < w → operand w (λ xs. all_zero (drop count xs)) (place at t) ≡ Err (Ended (at + length t))
-padded_short w count here past at t h k e l = operand_short w (λ xs. all_zero (drop count xs)) at t (sym (zeros_here w count here past t h k) ∙ e) (omega arith)
-
-pub padded_long : (w count here past at : ℕ) (t : List ℕ) → here ≡ min w (length t) → past ≡ min count here → all_zero (take (here - past) (drop past t)) ≡ true → w ≤ here → operand w (λ xs. all_zero (drop count xs)) (place at t) ≡ Ok (take w t, place (at + w) (drop w t))
-padded_long w count here past at t h k e l = operand_long w (λ xs. all_zero (drop count xs)) at t (sym (zeros_here w count here past t h k) ∙ e) (omega arith)
-
--- a loop over the octets
-pub zero_no : (t : List ℕ) (i : ℕ) → i < length t → (get_or t i 0 ≡ 0 → ⊥) → all_zero (drop i t) ≡ false
-zero_no t i h k =
-    let first : eqb (get_or t i 0) 0 ≡ false = ne_eqb _ _ k in
-    at_drop_more all_zero t i 0 h ∙ rw first
-
-pub zero_more : (t : List ℕ) (i : ℕ) → i < length t → get_or t i 0 ≡ 0 → all_zero (drop i t) ≡ all_zero (drop (i + 1) t)
-zero_more t i h k =
-    let first : eqb (get_or t i 0) 0 ≡ true = eq-eqb _ _ k in
-    at_drop_more all_zero t i 0 h ∙ rw first
+  pub padded_long : list_all (λ x. eqb x 0) (drop count (take w t)) ≡ true → w ≤ length t → operand w (zeros_past count) (place at t) ≡ Ok (take w t, place (at + w) (drop w t))
+  padded_long e l = operand_long w (zeros_past count) at t (all_zero_is (drop count (take w t)) ∙ e) l
 
 -- a chain of operands, one after another, as the code meets them
 pub from_err : {X Y : Type 0} (r : Read X) (f : X → Place → Read Y) (e : TapeFault) → Err e ≡ r → Err e ≡ then r f
@@ -198,20 +167,6 @@ from_ok r f x p y h k = k ∙ sym (then_is r f x p (sym h))
 pub from_start : (n : ℕ) → n - 0 ≡ n
 from_start n = omega arith
 
--- an answer that memory may keep from being given
-pub agrees_same : {X Y : Type 0} (f : X → Y) (r s : Read Y) (x : Result (X × Cursor) ReadError) → r ≡ s → Agrees f s x → Agrees f r x
-agrees_same f r s (Ok x) e h = e ∙ h
-agrees_same f r s (Err (Fault g)) e h = e ∙ h
-agrees_same f r s (Err Memory) e h = tt
-
--- an error that is passed on: a refusal, or want of memory
-pub agrees_err : {X Y V W : Type 0} (f : X → Y) (g : V → W) (r : Read Y) (s : Read W) (e : ReadError) → ((h : TapeFault) → Err h ≡ r → Err h ≡ s) → Agrees f r (Err e) → Agrees g s (Err e)
-agrees_err f g r s (Fault h) k a = sym (k h (sym a))
-agrees_err f g r s Memory k a = tt
-
-pub security_zeros : (flag : ℕ) (p : Place) → flag ≡ 0 → security_operand flag p ≡ then (operand 50 (λ xs. all_zero (drop 0 xs)) p) (λ xs q. Ok (None, q))
-security_zeros flag p e = rw e
-
 operand_same : (w : ℕ) (f g : List ℕ → Bool) (p : Place) → f (take w p.rest) ≡ g (take w p.rest) → operand w f p ≡ operand w g p
 unfolding operand
 operand_same w f g p e = rw e
@@ -223,25 +178,3 @@ security_octets_are flag p h =
     let none : drop 50 (take 50 p.rest) ≡ [] = drop_all 50 (take 50 p.rest) (omega arith) in
     let passes : all_zero (drop 50 (take 50 p.rest)) ≡ true = ap all_zero none in
     rw other (ap (λ r. then r (λ xs q. Ok (Some xs, q))) (operand_same 50 (λ xs. true) (λ xs. all_zero (drop 50 xs)) p (sym passes)))
-
--- a warning by its command octet, as a slice's pattern finds it
-pub entry_none : (at : ℕ) (t : List ℕ) → length t < 1 → entry (place at t) ≡ Err (Ended at)
-unfolding entry
-entry_none at [] h = let e : at + 0 ≡ at = omega arith in then_err _ _ _ (octet_none (λ c. true) at [] h) ∙ ap (λ z. Err (Ended z)) e
-entry_none at (x ∷ t) h = absurd (omega arith)
-
-entry_first : (at : ℕ) (t : List ℕ) → 1 ≤ length t → entry (place at t) ≡ by_command (get_or t 0 0) at (place (at + 1) (take (length t - 1) (drop 1 t)))
-unfolding entry
-entry_first at t h = then_is _ _ _ _ (octet-first at t h)
-
-pub entry_primary : (at : ℕ) (t : List ℕ) → 1 ≤ length t → get_or t 0 0 ≡ 0x50 → entry (place at t) ≡ primary_operands (place (at + 1) (take (length t - 1) (drop 1 t)))
-entry_primary at t h e = entry_first at t h ∙ rw e
-
-pub entry_message : (at : ℕ) (t : List ℕ) → 1 ≤ length t → get_or t 0 0 ≡ 0x4D → entry (place at t) ≡ message_operands (place (at + 1) (take (length t - 1) (drop 1 t)))
-entry_message at t h e = entry_first at t h ∙ rw e
-
-pub entry_unknown : (at : ℕ) (t : List ℕ) → 1 ≤ length t → (get_or t 0 0 ≡ 0x50 → ⊥) → (get_or t 0 0 ≡ 0x4D → ⊥) → entry (place at t) ≡ Err (Unknown at)
-entry_unknown at t h j k =
-    let a : eqb (get_or t 0 0) 0x50 ≡ false = ne_eqb _ _ j in
-    let b : eqb (get_or t 0 0) 0x4D ≡ false = ne_eqb _ _ k in
-    entry_first at t h ∙ rw (a, b)

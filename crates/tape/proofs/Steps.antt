@@ -1,6 +1,6 @@
 -- One step of a reader of a whole tape.
 use Rattle.std.specs.declared.alloc.Global.{Global}
-use Rattle.std.proofs.Common.{Vec, ◌≡◌, ℕ, ◌-◌, ◌<◌, ◌≤◌, true, List, [], ◌∷◌, ◌++◌, map, length, take, drop, Ok, Err, sym, refl, ap, ◌∙◌, arith}
+use Rattle.std.proofs.Common.{Vec, ◌≡◌, ℕ, ◌-◌, ◌<◌, ◌≤◌, true, List, [], ◌∷◌, ◌++◌, map, length, take, drop, Ok, Err, sym, refl, ap, ◌∙◌, subst, arith}
 use Rattle.std.proofs.lemmas.List.{append_assoc, length-append, length-take-le, length-drop, take_at, drop_at, take-append-drop, take_rest, flat_map_more, map_push}
 use Rattle.std.proofs.lemmas.Bool.{and_parts}
 use Rattle.tape.specs.declared.fault.TapeFault.{TapeFault}
@@ -36,9 +36,9 @@ pub record Reached (t : List ℕ) (at : ℕ) (ws : List Notice) : Type 0 where
   pub written : encode_all ws ≡ take at t
 
 -- what is left after a warning was taken
-module _ (t : List ℕ) (at : ℕ) (ws vs : List Notice) (w : Notice) (q : Place) (reached : Reached t at ws) (read : entry (place at (take (length t - at) (drop at t))) ≡ Ok (w, q)) (added : vs ≡ ws ++ (w ∷ [])) where
+module _ (t : List ℕ) (at : ℕ) (ws vs : List Notice) (w : Notice) (q : Place) (reached : Reached t at ws) (read : entry (place at (drop at t)) ≡ Ok (w, q)) (added : vs ≡ ws ++ (w ∷ [])) where
   step_took : Took (encode w) (place at (drop at t)) q
-  step_took = let o = (entry_ok (place at (take (length t - at) (drop at t))) w q read).1 in rw (take_rest t at) at o
+  step_took = (entry_ok (place at (drop at t)) w q read).1
 
   whole : t ≡ (take at t ++ encode w) ++ q.rest
   whole = sym (take-append-drop at t) ∙ ap (λ z. take at t ++ z) step_took.cut ∙ sym (append_assoc (take at t) (encode w) q.rest)
@@ -50,24 +50,27 @@ module _ (t : List ℕ) (at : ℕ) (ws vs : List Notice) (w : Notice) (q : Place
       let m = step_took.moved in
       omega arith
 
-  pub step_rest : drop q.at t ≡ q.rest
+  step_rest : drop q.at t ≡ q.rest
   step_rest = ap (drop q.at) whole ∙ drop_at (take at t ++ encode w) q.rest q.at front
 
   step_front : take q.at t ≡ take at t ++ encode w
   step_front = ap (take q.at) whole ∙ take_at (take at t ++ encode w) q.rest q.at front
 
-  pub step_read : entry (place at (drop at t)) ≡ Ok (w, place q.at (drop q.at t))
-  step_read = ap (λ z. entry (place at z)) (sym (take_rest t at)) ∙ read ∙ ap (λ z. Ok (w, place q.at z)) (sym step_rest)
+  pub step_read : (n : ℕ) → n ≡ q.at → entry (place at (drop at t)) ≡ Ok (w, place n (drop n t))
+  step_read n e = read ∙ ap (λ z. Ok (w, place q.at z)) (sym step_rest) ∙ ap (λ m. Ok (w, place m (drop m t))) (sym e)
 
-  pub step_reached : Reached t q.at vs
-  step_reached =
+  reached_there : Reached t q.at vs
+  reached_there =
       let long = ap length whole ∙ length-append (take at t ++ encode w) q.rest in
-      let right = (entry_ok (place at (take (length t - at) (drop at t))) w q read).0 in
+      let right = (entry_ok (place at (drop at t)) w q read).0 in
       record {
         within = omega (arith, front, long);
         right = ap all_warnings added ∙ all_more ws w reached.right right;
         written = ap encode_all added ∙ encode-more ws w ∙ ap (λ z. z ++ encode w) reached.written ∙ sym step_front;
       }
+
+  pub step_reached : (n : ℕ) → n ≡ q.at → Reached t n vs
+  step_reached n e = subst (λ m. Reached t m vs) (sym e) reached_there
 
 -- each warning leaves less
 pub read_less : (p : Place) (w : Notice) (q : Place) → entry p ≡ Ok (w, q) → length q.rest < length p.rest
@@ -77,14 +80,10 @@ read_less p w q e =
     let some = some_octets w in
     omega arith
 
--- a refusal, as the reader meets it
-pub refused_read : (t : List ℕ) (at : ℕ) (f : TapeFault) → entry (place at (take (length t - at) (drop at t))) ≡ Err f → entry (place at (drop at t)) ≡ Err f
-refused_read t at f e = ap (λ z. entry (place at z)) (sym (take_rest t at)) ∙ e
-
 -- an error leaves the reader where it was
-pub next_err : (t : List ℕ) (at : ℕ) (ws : List Notice) (e : ReadError) → at < length t → Agrees owned (entry (place at (take (length t - at) (drop at t)))) (Err e) → Next (place at (drop at t)) ws (place at (drop at t)) ws (Err e)
-next_err t at ws (Fault f) h a = let d = length-drop at t in (omega arith, refused_read t at f a, refl, refl)
-next_err t at ws Memory h a = (refl, refl)
+pub next_err : (t : List ℕ) (at : ℕ) (ws : List Notice) (q : Place) (e : ReadError) → at < length t → Agrees owned (entry (place at (drop at t))) (Err e) q → Next (place at (drop at t)) ws (place at (drop at t)) ws (Err e)
+next_err t at ws q (Fault f) h a = let d = length-drop at t in (omega arith, a, refl, refl)
+next_err t at ws q Memory h a = (refl, refl)
 
 -- one warning more, in the reader's own memory
 pub owned-more : (xs ys : List (Warning (Vec ℕ Global))) (x : (Warning (Vec ℕ Global))) → ys ≡ xs ++ (x ∷ []) → map owned ys ≡ map owned xs ++ (owned x ∷ [])

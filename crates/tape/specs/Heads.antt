@@ -9,13 +9,11 @@ use Rattle.warning.specs.Contents.{octets}
 use Rattle.warning.specs.Notice.{Notice}
 use Rattle.warning.specs.Numbers.{security_octets}
 use Rattle.warning.specs.Rules.{carries_message, limit}
-use Rattle.tape.specs.declared.cursor.Cursor.{Cursor}
 use Rattle.tape.specs.declared.fault.TapeFault.{TapeFault}
 use Rattle.tape.specs.declared.fault.TapeFault.TheVariants.{Unknown}
 use Rattle.tape.specs.declared.fault.ReadError.{ReadError}
 use Rattle.tape.specs.declared.fault.ReadError.TheVariants.{Fault, Memory}
 use Rattle.tape.specs.Numbers.{primary_command, message_command}
-use Rattle.tape.specs.Cursors.{stands}
 use Rattle.tape.specs.Reading.{Place, Read, then, operand, octet, number, number_to, pair_operands, all_zero, present, part, most_flag, most_area, entry}
 
 -- the operands of a primary, up to its security information
@@ -82,12 +80,7 @@ abbrev pub copied : Read Notice → List ℕ → List ℕ
 copied (Ok r) memory = written 0 (octets r.0) memory
 copied (Err f) memory = memory
 
--- something that is read, of which only the place after it is kept
-abbrev pub Skipped : {X : Type 0} → Read X → Result Cursor TapeFault → Type 0
-Skipped {X} r (Ok c) = (x : X) × (r ≡ Ok (x, stands c))
-Skipped r (Err f) = r ≡ Err f
-
--- a part that is copied to a place of a memory
-abbrev pub PartCopied : Read (List ℕ) → ℕ → List ℕ → List ℕ → Result Cursor TapeFault → Type 0
-PartCopied r at before after (Ok c) = (xs : List ℕ) × (r ≡ Ok (xs, stands c)) × (after ≡ written at xs before)
-PartCopied r at before after (Err f) = r ≡ Err f
+-- something that is read, whose octets are handed on; of a refusal nothing else is said
+abbrev pub Passed : {X : Type 0} → (X → List ℕ) → Read X → (List ℕ → Type 0) → Result (Unit {0}) TapeFault → Place → Type 0
+Passed {X} octets_in r taken (Ok u) p = (x : X) × (r ≡ Ok (x, p)) × taken (octets_in x)
+Passed octets_in r taken (Err f) p = r ≡ Err f

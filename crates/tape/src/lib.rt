@@ -8,6 +8,7 @@ pub mod numbers;
 mod operands;
 mod read;
 pub mod reader;
+mod sink;
 pub mod tapes;
 pub mod write;
 pub mod write_all;

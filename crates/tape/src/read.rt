@@ -1,190 +1,213 @@
-// Reading warnings, command by command, into memory of their own.
-ghost use Rattle.std.specs.Prelude.{◌≡◌, ℕ, ◌+◌, ◌≤◌, List, IfOk, vec_items};
+// Reading one warning: its head tells its outline, and its body has its
+// octets.
+ghost use Rattle.std.specs.Prelude.{◌≡◌, ◌≤◌, true, length, take, vec_items, IfOk};
+ghost use Rattle.std.specs.Option.{option_map, unwrap_or};
+ghost use Rattle.warning.specs.Contents.{octets};
 ghost use Rattle.warning.specs.Meaning.{kept, owned};
-ghost use Rattle.tape.specs.Cursors.{stands, Agrees, Within};
-ghost use Rattle.tape.specs.Reading.{part, present, security_operand, primary_operands, most_flag, most_area, message_data, message_lengths, message_operands, entry};
+ghost use Rattle.warning.specs.Numbers.{most_octets};
+ghost use Rattle.warning.specs.Rules.{is_warning};
+ghost use Rattle.tape.specs.Cursors.{gave, Agrees, flag_number};
+ghost use Rattle.tape.specs.Heads.{primary_outline, lengths_outline, message_outline, head, body, Passed};
+ghost use Rattle.tape.specs.Reading.{part, most_flag, most_area, entry};
 
 use crate::cursor::Cursor;
 use crate::fault::*;
 use crate::numbers::*;
-use crate::operands::*;
-use std::alloc::Global;
+use crate::sink::{Copied, Sink};
+use std::alloc::{AllocError, Global};
 use warning::numbers::*;
-use warning::{Pair, WarningBuf, octet_limit};
+use warning::{Outline, Pair, WarningBuf, octet_limit};
 
-// The octets of one part, gathered from its data commands.
-fn part(heap: Global, input: Cursor<'_>, count: usize) -> Result<(Vec<u8>, Cursor<'_>), ReadError>
-    requires { Within input }
-    ensures value { Agrees vec_items (part count (stands input.entry)) result }
-    ensures within { IfOk result (λ x. Within x.1) }
+// Whether a message of a block may have an area.
+fn may_have_area(block: u8) -> bool
+    ensures { flag_number result ≡ most_flag block }
 {
-    let mut octets = Vec::new(heap);
-    let mut left = count;
-    let mut input = input;
-    while left > 0 {
-        let n = left.min(DATA_OCTETS);
-        let (piece, rest) = data(input, n)?;
-        octets.extend_from_slice(piece)?;
-        left -= n;
-        input = rest;
-    }
-    Ok((octets, input))
-}
-
-// Security information, which is zeros where its flag is 0.
-fn security(
-    heap: Global,
-    input: Cursor<'_>,
-    flag: u8,
-) -> Result<(Option<Vec<u8>>, Cursor<'_>), ReadError>
-    requires within { Within input }
-    ensures value { Agrees kept (security_operand flag (stands input.entry)) result }
-    ensures within { IfOk result (λ x. Within x.1) }
-{
-    if flag == 0 {
-        let (_zeros, rest) = padded(input, SECURITY_OCTETS, 0)?;
-        return Ok((None, rest));
-    }
-    let (octets, rest) = padded(input, SECURITY_OCTETS, SECURITY_OCTETS)?;
-    Ok((Some(Vec::from_slice(heap, octets)?), rest))
-}
-
-// The operands of a primary.
-fn primary(heap: Global, input: Cursor<'_>) -> Result<(WarningBuf, Cursor<'_>), ReadError>
-    requires { Within input }
-    ensures value { Agrees owned (primary_operands (stands input.entry)) result }
-    ensures within { IfOk result (λ x. Within x.1) }
-{
-    let (pair, rest) = pair(input)?;
-    let (warning_type, rest) = number(rest)?;
-    let (flag, rest) = flag(rest, 1)?;
-    let (security, rest) = security(heap, rest, flag)?;
-    let warning = WarningBuf::Primary {
-        pair,
-        warning_type,
-        security,
-    };
-    Ok((warning, rest))
-}
-
-// The operands of a message.
-#[derive(Clone, Copy)]
-struct MessageHead {
-    block: u8,
-    pair: Pair,
-    coding: u8,
-    message: usize,
-    flag: u8,
-    area: usize,
-}
-
-// An area, if its flag says that there is one.
-fn flagged(flag: u8, octets: Vec<u8>) -> Option<Vec<u8>>
-    ensures { kept result ≡ present flag octets.items }
-{
-    if flag == 0 { None } else { Some(octets) }
-}
-
-// The octets of a message, in its data commands.
-fn message_data(
-    heap: Global,
-    head: MessageHead,
-    input: Cursor<'_>,
-) -> Result<(WarningBuf, Cursor<'_>), ReadError>
-    requires { Within input }
-    ensures value { Agrees owned (message_data head.block head.pair head.coding head.message head.flag head.area (stands input.entry)) result }
-    ensures within { IfOk result (λ x. Within x.1) }
-{
-    let (message, rest) = part(heap, input, head.message)?;
-    let (octets, rest) = part(heap, rest, head.area)?;
-    let warning = WarningBuf::Message {
-        block: head.block,
-        pair: head.pair,
-        coding: head.coding,
-        message,
-        area: flagged(head.flag, octets),
-    };
-    Ok((warning, rest))
-}
-
-// The largest area flag of a block.
-pub fn most_flag(block: u8) -> u8
-    ensures { result ≡ most_flag block }
-{
-    if block == ETWS_SECONDARY { 0 } else { 1 }
+    block != ETWS_SECONDARY
 }
 
 // The largest area length.
-pub fn most_area(block: u8, message: usize, flag: u8) -> usize
-    ensures { result ≡ most_area block message flag }
+fn most_area(block: u8, message: usize, has_area: bool) -> usize
+    ensures { result ≡ most_area block message (flag_number has_area) }
 {
-    if flag == 0 {
-        0
-    } else {
+    if has_area {
         octet_limit(block).saturating_sub(message)
+    } else {
+        0
     }
 }
 
-// The lengths of a message, and what follows them.
-fn message_lengths(
-    heap: Global,
+// The operands of a primary, up to its security information.
+#[tactic(auto, unfolding(crate::specs::Heads::primary_outline))]
+fn primary_outline(cursor: &mut Cursor<'_>) -> Result<Outline, TapeFault>
+    ensures { gave result cursor.new ≡ primary_outline cursor.old }
+{
+    let pair = cursor.pair()?;
+    let warning_type = cursor.number()?;
+    let has_security = cursor.flag(true)?;
+    Ok(Outline::Primary {
+        pair,
+        warning_type,
+        security: has_security.then_some(SECURITY_OCTETS),
+    })
+}
+
+// The lengths of a message.
+fn lengths_outline(
+    cursor: &mut Cursor<'_>,
     block: u8,
     pair: Pair,
     coding: u8,
-    input: Cursor<'_>,
-) -> Result<(WarningBuf, Cursor<'_>), ReadError>
-    requires { Within input }
-    ensures value { Agrees owned (message_lengths block pair coding (stands input.entry)) result }
-    ensures within { IfOk result (λ x. Within x.1) }
+) -> Result<Outline, TapeFault>
+    ensures { gave result cursor.new ≡ lengths_outline block pair coding cursor.old }
 {
-    let (message, rest) = number_to(input, octet_limit(block))?;
-    let (flag, rest) = flag(rest, most_flag(block))?;
-    let (area, rest) = number_to(rest, most_area(block, message, flag))?;
-    let head = MessageHead {
+    let message = cursor.number_to(octet_limit(block))?;
+    let has_area = cursor.flag(may_have_area(block))?;
+    let area = cursor.number_to(most_area(block, message, has_area))?;
+    Ok(Outline::Message {
         block,
         pair,
         coding,
         message,
-        flag,
-        area,
-    };
-    message_data(heap, head, rest)
+        area: has_area.then_some(area),
+    })
 }
 
-// The operands of a message, and its data.
-fn message(heap: Global, input: Cursor<'_>) -> Result<(WarningBuf, Cursor<'_>), ReadError>
-    requires { Within input }
-    ensures value { Agrees owned (message_operands (stands input.entry)) result }
-    ensures within { IfOk result (λ x. Within x.1) }
+// The operands of a message, up to its data.
+#[tactic(auto, unfolding(crate::specs::Heads::message_outline))]
+fn message_outline(cursor: &mut Cursor<'_>) -> Result<Outline, TapeFault>
+    ensures { gave result cursor.new ≡ message_outline cursor.old }
 {
-    let (block, rest) = block(input)?;
-    let (pair, rest) = pair(rest)?;
-    let (coding, rest) = any_octet(rest)?;
-    message_lengths(heap, block, pair, coding, rest)
+    let block = cursor.block()?;
+    let pair = cursor.pair()?;
+    let coding = cursor.octet()?;
+    lengths_outline(cursor, block, pair, coding)
 }
 
-// One warning: its command octet tells which operands follow.
-pub fn entry(heap: Global, input: Cursor<'_>) -> Result<(WarningBuf, Cursor<'_>), ReadError>
-    requires { Within input }
-    ensures value { Agrees owned (entry (stands input.entry)) result }
-    ensures within { IfOk result (λ x. Within x.1) }
+// The head of a warning: its command octet tells which operands follow.
+#[tactic(auto, unfolding(crate::specs::Heads::head))]
+pub fn head(cursor: &mut Cursor<'_>) -> Result<Outline, TapeFault>
+    ensures value { gave result cursor.new ≡ head cursor.old }
+    ensures right { IfOk result (λ o. is_warning o ≡ true) }
 {
-    match input.rest {
-        [PRIMARY, operands @ ..] => primary(
-            heap,
-            Cursor {
-                at: input.at + 1,
-                rest: operands,
-            },
-        ),
-        [MESSAGE, operands @ ..] => message(
-            heap,
-            Cursor {
-                at: input.at + 1,
-                rest: operands,
-            },
-        ),
-        [_, ..] => Err(ReadError::Fault(TapeFault::Unknown { offset: input.at })),
-        [] => Err(ReadError::Fault(TapeFault::Ended { offset: input.at })),
+    let offset = cursor.offset();
+    match cursor.octet()? {
+        PRIMARY => primary_outline(cursor),
+        MESSAGE => message_outline(cursor),
+        _ => Err(TapeFault::Unknown { offset }),
     }
+}
+
+// The octets of a part, handed on from its data commands.
+fn part<S: Sink>(cursor: &mut Cursor<'_>, count: usize, sink: &mut S) -> Result<(), TapeFault>
+    requires { S.fits sink.old count }
+    ensures { Passed (λ xs. xs) (part count cursor.old) (λ xs. S.took sink.old xs sink.new) result cursor.new }
+{
+    for command in 0..count.div_ceil(DATA_OCTETS) {
+        let left = count - command * DATA_OCTETS;
+        let octets = cursor.data(left.min(DATA_OCTETS))?;
+        sink.take(octets);
+    }
+    Ok(())
+}
+
+// The body of a warning whose outline is given: its octets are handed on.
+pub fn pass_body<S: Sink>(
+    cursor: &mut Cursor<'_>,
+    outline: Outline,
+    sink: &mut S,
+) -> Result<(), TapeFault>
+    requires right { is_warning outline ≡ true }
+    requires fit { S.fits sink.old most_octets }
+    ensures { Passed octets (body outline cursor.old) (λ xs. S.took sink.old xs sink.new) result cursor.new }
+{
+    match outline {
+        Outline::Primary { security, .. } => {
+            let count = security.unwrap_or(0);
+            let octets = cursor.padded(SECURITY_OCTETS, count)?;
+            sink.take(&octets[..count]);
+            Ok(())
+        }
+        Outline::Message { message, area, .. } => {
+            part(cursor, message, sink)?;
+            part(cursor, area.unwrap_or(0), sink)
+        }
+    }
+}
+
+// Fills a memory with the octets of a part of its length.
+fn fill(cursor: &mut Cursor<'_>, memory: &mut [u8]) -> Result<(), TapeFault>
+    ensures { Passed (λ xs. xs) (part (length memory.old) cursor.old) (λ xs. memory.new ≡ xs) result cursor.new }
+{
+    let count = memory.len();
+    part(cursor, count, &mut Copied { memory, at: 0 })
+}
+
+// The octets of a part, in memory of their own.
+fn part_buf(heap: Global, cursor: &mut Cursor<'_>, count: usize) -> Result<Vec<u8>, ReadError>
+    ensures { Agrees vec_items (part count cursor.old) result cursor.new }
+{
+    let mut octets = vec![in heap; 0; count]?;
+    fill(cursor, &mut octets)?;
+    Ok(octets)
+}
+
+// Security information of a length, in memory of its own.
+fn security_buf(
+    heap: Global,
+    octets: &[u8],
+    security: Option<usize>,
+) -> Result<Option<Vec<u8>>, AllocError>
+    requires { unwrap_or security 0 ≤ length octets.now }
+    ensures { IfOk result (λ x. kept x ≡ option_map (λ n. take n octets.now) security) }
+{
+    match security {
+        Some(count) => Ok(Some(Vec::from_slice(heap, &octets[..count])?)),
+        None => Ok(None),
+    }
+}
+
+// The body of a warning whose outline is given, which makes the warning whole.
+fn body(heap: Global, cursor: &mut Cursor<'_>, outline: Outline) -> Result<WarningBuf, ReadError>
+    requires { is_warning outline ≡ true }
+    ensures { Agrees owned (body outline cursor.old) result cursor.new }
+{
+    match outline {
+        Outline::Primary {
+            pair,
+            warning_type,
+            security,
+        } => {
+            let octets = cursor.padded(SECURITY_OCTETS, security.unwrap_or(0))?;
+            Ok(WarningBuf::Primary {
+                pair,
+                warning_type,
+                security: security_buf(heap, octets, security)?,
+            })
+        }
+        Outline::Message {
+            block,
+            pair,
+            coding,
+            message,
+            area,
+        } => {
+            let message = part_buf(heap, cursor, message)?;
+            let octets = part_buf(heap, cursor, area.unwrap_or(0))?;
+            Ok(WarningBuf::Message {
+                block,
+                pair,
+                coding,
+                message,
+                area: area.map(|_| octets),
+            })
+        }
+    }
+}
+
+// One warning, in memory of its own.
+pub fn entry(heap: Global, cursor: &mut Cursor<'_>) -> Result<WarningBuf, ReadError>
+    ensures { Agrees owned (entry cursor.old) result cursor.new }
+{
+    let outline = head(cursor)?;
+    body(heap, cursor, outline)
 }

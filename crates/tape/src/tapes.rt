@@ -39,10 +39,10 @@ impl<'a> TapeReader<'a> {
         if at == self.tape.len() {
             return Ok(None);
         }
-        let rest = &self.tape[at..];
-        let (warning, after) = entry(heap, Cursor { at, rest })?;
+        let mut cursor = Cursor::new(self.tape, at);
+        let warning = entry(heap, &mut cursor)?;
         self.read.push(warning)?;
-        self.at = after.at;
+        self.at = cursor.offset();
         Ok(Some(at))
     }
 

@@ -1,29 +1,13 @@
-use Rattle.std.proofs.Common.{arith}
-use Rattle.std.proofs.lemmas.Bool.{ltb-false, ltb-true, eqb-true, eqb-false}
+use Rattle.std.proofs.Common.{sym}
+use Rattle.std.proofs.lemmas.Result.{err_from_is_err_and}
 use Rattle.warning.specs.Meaning.{owned}
-use Rattle.tape.proofs.Splits.{agrees_same, entry_none, entry_primary, entry_message, entry_unknown}
+use Rattle.tape.proofs.Readings.{head_refused, head_read, agrees_same}
 use Rattle.tape.proofs.read.entry.Goals as goal
 
-pub returns-in-empty : goal.returns-in-empty
-returns-in-empty c = record { value = entry_none c.args.input.at c.args.input.rest.now (omega (arith, ltb-false, ltb-true, eqb-true)); within = tt }
+pub returns-in_err-outline : goal.returns-in_err-outline
+returns-in_err-outline c =
+    let p = err_from_is_err_and c.from_residual.result c.from_residual.ensures.1 in
+    rw (p.1, p.2) (head_refused c.args.cursor.now _ (sym c.in_err-outline.ensures.value))
 
-pub returns-in-80 : goal.returns-in-80
-returns-in-80 c =
-    record {
-      value = agrees_same owned _ _ c.primary.result (entry_primary c.args.input.at c.args.input.rest.now (omega (arith, ltb-false, ltb-true)) (omega (arith, eqb-true))) c.primary.ensures.value;
-      within = c.primary.ensures.within;
-    }
-
-pub returns-in-77 : goal.returns-in-77
-returns-in-77 c =
-    record {
-      value = agrees_same owned _ _ c.message.result (entry_message c.args.input.at c.args.input.rest.now (omega (arith, ltb-false, ltb-true)) (omega (arith, eqb-true))) c.message.ensures.value;
-      within = c.message.ensures.within;
-    }
-
-pub returns-in-len1-up : goal.returns-in-len1-up
-returns-in-len1-up c =
-    record {
-      value = entry_unknown c.args.input.at c.args.input.rest.now (omega (arith, ltb-false, ltb-true)) (λ e. omega (arith, eqb-false)) (λ e. omega (arith, eqb-false));
-      within = tt;
-    }
+pub returns : goal.returns
+returns c = agrees_same owned _ _ _ _ (head_read c.args.cursor.now _ _ (sym c.in_ok-outline.ensures.value)) c.body.ensures

@@ -1,28 +1,32 @@
-use Rattle.std.proofs.Common.{vec_items, refl, arith}
-use Rattle.std.proofs.lemmas.Slice.{pushed}
+use Rattle.std.proofs.Common.{◌+◌, ◌-◌, ◌*◌, length, refl, sym, subst, arith}
 use Rattle.std.proofs.lemmas.Result.{err_from_is_err_and}
-use Rattle.tape.specs.Cursors.{stands}
-use Rattle.tape.proofs.Gathers.{gather_more, gather_err, gather_end}
+use Rattle.tape.proofs.Copies.{handing_start, handing_more, handing_err, handing_end, data_long}
 use Rattle.tape.proofs.read.part.Goals as goal
 
-pub returns-in_err-piece : goal.returns-in_err-piece
-returns-in_err-piece c =
-    let p = err_from_is_err_and c.from_residual.result c.from_residual.ensures.1 in
-    rw (p.1, p.2) (record {
-      value = gather_err c.loop-left.left c.min-n.result (stands c.loop-left.input) (vec_items c.loop-left.octets) _ _ (omega arith) (omega arith) c.in_err-piece.ensures.value c.loop-left.invariant.0;
-      within = tt;
-    })
+pub loop-command-init : goal.loop-command-init
+loop-command-init g c = handing_start _ c.args.count c.args.cursor.now _ (omega arith) (g.met.S.Sink.takes_none c.args.sink.now)
 
-pub loop-left-preserved : goal.loop-left-preserved
-loop-left-preserved c =
-    let more = pushed c.in_ok-piece.piece.now refl c.in_ok-extend_from_slice.was c.extend_from_slice.ensures.items in (
-      gather_more c.loop-left.left _ c.min-n.result (stands c.loop-left.input) (stands c.in_ok-piece.rest) (vec_items c.loop-left.octets) c.in_ok-piece.piece.now (vec_items c.extend_from_slice.new.self) _ (omega arith) (omega arith) refl c.in_ok-piece.ensures.value more c.loop-left.invariant.0,
-      c.in_ok-piece.ensures.within,
-    )
+pub returns-in_err-octets : goal.returns-in_err-octets
+returns-in_err-octets g c =
+    let p = err_from_is_err_and c.from_residual.result c.from_residual.ensures.1 in
+    rw (p.1, p.2) (handing_err _ c.args.count c.args.cursor.now _ c.min.result _ _ (omega arith) (omega arith) c.in_err-octets.ensures c.loop-command.invariant)
+
+pub take-requires : goal.take-requires
+take-requires g c =
+    let h = c.loop-command.invariant in
+    let left = c.args.count - c.loop-command.command * 32 in
+    let long = data_long c.min.result _ _ _ (omega arith) c.in_ok-octets.ensures in
+    let all = subst (λ n. g.S.Sink.fits c.args.sink.now n) (sym h.counted) c.requires in
+    let room = g.met.S.Sink.fits_after c.args.sink.now c.loop-command.sink h.handed left all h.taken in
+    g.met.S.Sink.fits_less c.loop-command.sink (length c.in_ok-octets.octets.now) left (omega arith) room
+
+pub loop-command-preserved : goal.loop-command-preserved
+loop-command-preserved g c =
+    handing_more _ c.args.count c.args.cursor.now _ _ _ c.min.result _ _ c.in_ok-octets.octets.now (omega arith) (omega arith) (omega arith) c.in_ok-octets.ensures
+    (λ xs few taken.
+    let room = g.met.S.Sink.fits_less c.args.sink.now (length xs + length c.in_ok-octets.octets.now) c.args.count few c.requires in
+    g.met.S.Sink.takes_more c.args.sink.now c.loop-command.sink _ xs c.in_ok-octets.octets.now room taken c.take.ensures)
+    c.loop-command.invariant
 
 pub returns : goal.returns
-returns c =
-    record {
-      value = gather_end c.loop-left.left (stands c.loop-left.input) (vec_items c.loop-left.octets) _ (omega arith) c.loop-left.invariant.0;
-      within = c.loop-left.invariant.1;
-    }
+returns g c = handing_end _ c.args.count c.args.cursor.now _ _ (omega arith) c.loop-command.invariant

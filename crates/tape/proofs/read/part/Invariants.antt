@@ -1,11 +1,6 @@
-use Rattle.std.proofs.Common.{◌≡◌, vec_items}
-use Rattle.tape.specs.Cursors.{stands, Within}
-use Rattle.tape.specs.Reading.{part}
-use Rattle.tape.proofs.Gathers.{prefixed}
+use Rattle.std.proofs.Common.{◌-◌, ◌*◌}
+use Rattle.tape.proofs.Copies.{Handing}
 use Rattle.tape.proofs.read.part.Given as goal
 
-abbrev pub invariant-loop-left : goal.invariant-loop-left
-invariant-loop-left l = (prefixed (vec_items l.octets) (part l.left (stands l.input)) ≡ part l.count (stands l.initial.input)) × Within l.input
-
-abbrev pub decreases-loop-left : goal.decreases-loop-left
-decreases-loop-left l = l.left
+abbrev pub invariant-loop-command : goal.invariant-loop-command
+invariant-loop-command g l = Handing (λ xs. g.S.Sink.took l.initial.sink xs l.sink) l.count l.initial.cursor (l.count - l.command * 32) l.cursor

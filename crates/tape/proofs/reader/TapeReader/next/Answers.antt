@@ -3,29 +3,15 @@ use Rattle.std.proofs.lemmas.List.{length-drop}
 use Rattle.std.proofs.lemmas.Slice.{pushed}
 use Rattle.std.proofs.lemmas.Result.{err_from_is_err_and}
 use Rattle.warning.specs.Meaning.{owned}
-use Rattle.tape.specs.Cursors.{stands}
 use Rattle.tape.proofs.Steps.{Reached, read_less, step_read, step_reached, next_err, owned-more}
 use Rattle.tape.proofs.reader.TapeReader.next.Goals as goal
-
-pub returns-then-at-self : goal.returns-then-at-self
-returns-then-at-self c =
-    let d = length-drop c.args.self.now.at c.args.self.now.tape.now in
-    record { tape = refl; step = (omega arith, refl, refl) }
-
-pub returns-in_err-warning : goal.returns-in_err-warning
-returns-in_err-warning c =
-    let p = err_from_is_err_and c.from_residual.result c.from_residual.ensures.1 in
-    rw (p.1, p.2) (record {
-      tape = refl;
-      step = next_err c.args.self.now.tape.now c.args.self.now.at _ _ (omega arith) c.in_err-warning.ensures.value;
-    })
 
 pub invariant_of-self-2 : goal.invariant_of-self-2
 invariant_of-self-2 c =
     let self = c.args.self.now in
     let more = pushed (c.in_ok-warning.warning ∷ []) refl c.in_ok-push.was c.push.ensures.items in
     let reached : Reached self.tape.now self.at (map owned (vec_items self.read)) = record { within = self.within; right = self.right; written = self.written } in
-    let next = step_reached self.tape.now self.at (map owned (vec_items self.read)) (map owned (vec_items c.push.new.self)) (owned c.in_ok-warning.warning) (stands c.in_ok-warning.after) reached c.in_ok-warning.ensures.value (owned-more _ _ _ more) in
+    let next = step_reached self.tape.now self.at (map owned (vec_items self.read)) (map owned (vec_items c.push.new.self)) (owned c.in_ok-warning.warning) c.entry.new.cursor reached (rw c.new-cursor.ensures at c.in_ok-warning.ensures) (owned-more _ _ _ more) c.offset-self.result c.offset-self.ensures in
     record { within = next.within; right = next.right; written = next.written }
 
 pub returns : goal.returns
@@ -33,5 +19,5 @@ returns c =
     let self = c.args.self.now in
     let more = pushed (c.in_ok-warning.warning ∷ []) refl c.in_ok-push.was c.push.ensures.items in
     let reached : Reached self.tape.now self.at (map owned (vec_items self.read)) = record { within = self.within; right = self.right; written = self.written } in
-    let read = step_read self.tape.now self.at (map owned (vec_items self.read)) (map owned (vec_items c.push.new.self)) (owned c.in_ok-warning.warning) (stands c.in_ok-warning.after) reached c.in_ok-warning.ensures.value (owned-more _ _ _ more) in
+    let read = step_read self.tape.now self.at (map owned (vec_items self.read)) (map owned (vec_items c.push.new.self)) (owned c.in_ok-warning.warning) c.entry.new.cursor reached (rw c.new-cursor.ensures at c.in_ok-warning.ensures) (owned-more _ _ _ more) c.offset-self.result c.offset-self.ensures in
     record { tape = refl; step = (refl, read_less _ _ _ read, (owned c.in_ok-warning.warning, read, owned-more _ _ _ more)) }
