@@ -7,15 +7,11 @@ use Rattle.store.specs.Meaning.{Held, Counted, nothing, slot_units, units}
 use Rattle.store.specs.Numbers.{number_count}
 use Rattle.store.specs.Outcomes.{index}
 use Rattle.store.proofs.Sums.{slot_nothing, units-nothing}
-use Rattle.pool.specs.declared.Place.{Place}
 use Rattle.pool.specs.Numbers.{slot_count, place_count, block_count, blocks_for, pool_shape}
-use Rattle.pool.specs.Chains.{walk, place, filled, blocks_of, laid_at, held_in, head, size, Inside, Apart, Fitting}
-use Rattle.pool.specs.Links.{Disjoint, apart_from}
+use Rattle.pool.specs.Chains.{walk, stored, blocks_of, laid_at, held_in, head, size, Apart}
+use Rattle.pool.proofs.Links.{Disjoint, apart_from}
 
-abbrev pub vacant : List (Option Place)
-vacant = replicate place_count None
-
-none_at : (m i : ℕ) → place (replicate m None) i ≡ None
+none_at : (m i : ℕ) → stored (replicate m None) i ≡ None
 none_at m i =
     ⊎_elim
     (λ (p : i < m). get_or-replicate m i None None p)
@@ -30,15 +26,6 @@ module _ (next : List ℕ) (each : (b : ℕ) → b + 1 < block_count → get_or 
   unfolding walk
   walk_is zero h = refl
   walk_is (suc i) h = ap (λ b. get_or next b 0) (walk_is i (omega arith)) ∙ each i (omega arith) ∙ add-one i
-
-  pub new_inside : (m : ℕ) → Inside next (head (replicate m None) 0) (size (replicate m None) 0)
-  new_inside m d i h =
-      ⊎_elim
-      (λ (e : d ≡ place_count).
-      let low : i < block_count = rw e at h in
-      rw e (let w = walk_is i low in omega arith))
-      (λ (ne : d ≡ place_count → ⊥). let z = size_at m d ne in absurd (omega arith))
-      (cases_eq d place_count)
 
   disjoint_new : (m : ℕ) → Disjoint next (head (replicate m None) 0) (size (replicate m None) 0)
   disjoint_new m d e i j h l z =
@@ -56,23 +43,20 @@ module _ (next : List ℕ) (each : (b : ℕ) → b + 1 < block_count → get_or 
       (λ (ne : d ≡ place_count → ⊥). let y = size_at m d ne in absurd (omega arith))
       (cases_eq d place_count)
 
-  pub new_apart : (m : ℕ) → Apart next (head (replicate m None) 0) (size (replicate m None) 0)
-  new_apart m = apart_from next (head (replicate m None) 0) (size (replicate m None) 0) (disjoint_new m)
-
-pub new_fitting : (m : ℕ) → Fitting (replicate m None)
-new_fitting m i = let z : filled (place (replicate m None) i) ≡ 0 = ap filled (none_at m i) in omega arith
+  pub new_apart : (m free used : ℕ) → free ≡ 0 → used ≡ 0 → Apart next (head (replicate m None) free) (size (replicate m None) used)
+  new_apart m free used f e = rw (f, e) (apart_from next (head (replicate m None) 0) (size (replicate m None) 0) (disjoint_new m))
 
 cond_none : {X : Type 0} (b : Bool) → cond {A = Option X} b None None ≡ None
 cond_none true = refl
 cond_none false = refl
 
-pub new_held : (octets next : List ℕ) (m : ℕ) → held_in octets next (replicate m None) ≡ nothing
+pub new_held : (octets : List (List ℕ)) (next : List ℕ) (m : ℕ) → held_in octets next (replicate m None) ≡ nothing
 unfolding held_in
 new_held octets next m = fun_ext (λ s. fun_ext (λ n.
     ap (λ z. cond (ltb s slot_count && ltb n number_count) z None) (ap (laid_at octets next) (none_at m (index s n))) ∙ cond_none (ltb s slot_count && ltb n number_count)))
 
-pub new_units : (h : Held) → h ≡ nothing → 0 ≡ units pool_shape h
-new_units h e = sym (ap (units pool_shape) e ∙ units-nothing pool_shape)
+pub new_units : (h : Held) → h ≡ nothing → units pool_shape h ≡ 0
+new_units h e = ap (units pool_shape) e ∙ units-nothing pool_shape
 
 pub new_counted : (h : Held) → h ≡ nothing → Counted blocks_for h (replicate slot_count 0)
 new_counted h e slot low = get_or-replicate slot_count slot 0 0 low ∙ sym (slot_nothing blocks_for slot) ∙ ap (λ z. slot_units blocks_for z slot) (sym e)

@@ -1,160 +1,154 @@
 -- What a pool's fields fulfil after a segment came or went.
-use Rattle.std.proofs.Common.{◌≡◌, ℕ, ◌+◌, ◌-◌, ◌<◌, ◌≤◌, List, length, get_or, take, set, is_some, Some, None, Option, sym, refl, ap, ◌∙◌, subst, arith}
-use Rattle.std.proofs.lemmas.List.{length-set, take_at}
-use Rattle.store.specs.declared.Lengths.{Lengths}
-use Rattle.store.specs.Meaning.{Segment, Counted, count, count_of, lengths_of, octets, paid, replaced, spread, units}
-use Rattle.store.specs.Numbers.{most_octets}
+use Rattle.std.proofs.Common.{◌≡◌, ℕ, zero, suc, ◌+◌, ◌-◌, ◌<◌, ◌≤◌, List, length, get_or, take, set, is_some, Some, None, Option, sym, refl, ap, ◌∙◌, subst, add-one, arith}
+use Rattle.std.proofs.lemmas.List.{length-set, take_at, take_all}
+use Rattle.std.proofs.lemmas.List.Sums.{sum_by_more}
+use Rattle.std.specs.List.{sum}
+use Rattle.store.specs.Meaning.{Content, Counted, count, count_of, lengths_of, octets, paid, replaced, slot_units, spread, sum_below, units}
 use Rattle.store.proofs.Changes.{none_if}
 use Rattle.store.proofs.Places.{There}
 use Rattle.store.proofs.Standing.{length-octets, spread_is}
 use Rattle.store.proofs.Sums.{counted_held, counted_replaced, paid_below, slot_below, units-replaced}
-use Rattle.pool.specs.declared.Place.{Place}
 use Rattle.pool.specs.declared.Pool.{Pool}
-use Rattle.pool.specs.declared.Used.{Used}
+use Rattle.pool.specs.declared.stored.Stored.{Stored}
 use Rattle.pool.specs.Numbers.{slot_count, place_count, block_count, blocks_for, pool_shape}
-use Rattle.pool.specs.Chains.{walk, place, held_in, head, size, Long, Inside, Apart, Fitting, Laid, more, less}
+use Rattle.pool.specs.Chains.{links, parts, walk, stored, held_in, in_use, head, size, Apart, Laid}
 use Rattle.pool.specs.Holding.{holding}
-use Rattle.pool.specs.Links.{apart_from}
-use Rattle.pool.specs.Tables.{sound, held_at, is_some-laid_at, fitting_set, paid_at}
-use Rattle.pool.proofs.Moves.{filled_inside, filled_apart, filled_held, released_inside, released_apart, released_held}
+use Rattle.pool.specs.Laws.{held_at}
+use Rattle.pool.proofs.Gathered.{length-links, walk_inside}
+use Rattle.pool.proofs.Held.{taken_at, paid_laid}
+use Rattle.pool.proofs.Links.{disjoint, apart_from}
+use Rattle.pool.proofs.Moves.{Sound, filled_apart, filled_held, released_apart, released_held}
 
--- the facts of a pool, one after the other
-abbrev pub Kept : List (Option Place) → List ℕ → List ℕ → ℕ → Used → Type 0
-Kept ps octs next free used =
-    Long ps octs next used.of
-    × ((used.all ≤ block_count)
-    × (Inside next (head ps free) (size ps used.all)
-    × (Apart next (head ps free) (size ps used.all)
-    × (Fitting ps
-    × ((used.all ≡ units pool_shape (held_in octs next ps))
-    × (Counted blocks_for (held_in octs next ps) used.of
-    × Unit {0}))))))
+-- the facts of a pool's fields, and what it holds then
+pub record Kept (ps : List (Option Stored)) (octs : List (List ℕ)) (next : List ℕ) (free : ℕ) (used : List ℕ) : Type 0 where
+  pub all : length ps ≡ place_count
+  pub slots : length used ≡ slot_count
+  pub within : in_use octs next ps ≤ block_count
+  pub apart : Apart next (head ps free) (size ps (in_use octs next ps))
+  pub counted : Counted blocks_for (held_in octs next ps) used
 
 -- the octets of a segment that was written to the start of a memory
-pub joined : (seg : Segment) (m m' : List ℕ) (n : ℕ) → count seg ≤ length m → m' ≡ spread seg m → n ≡ count seg → take (n - 0) m' ≡ octets seg
+pub joined : (seg : Content) (m m' : List ℕ) (n : ℕ) → count seg ≤ length m → m' ≡ spread seg m → n ≡ count seg → take n m' ≡ octets seg
 joined seg m m' n h e c =
-    let k : n - 0 ≡ length (octets seg) = omega (arith, length-octets seg) in
-    ap (λ z. take z m') k ∙ ap (take (length (octets seg))) (e ∙ spread_is seg m h) ∙ take_at (octets seg) _ _ refl
+    ap (λ z. take z m') (c ∙ sym (length-octets seg)) ∙ ap (take (length (octets seg))) (e ∙ spread_is seg m h) ∙ take_at (octets seg) _ _ refl
 
-pub vacant_at : (p : Pool) (slot n i : ℕ) → There slot_count slot n i → holding p slot n ≡ None → place p.places i ≡ None
-vacant_at p slot n i t e =
-    none_if (place p.places i) (is_some-laid_at p.octets p.next (place p.places i) ∙ ap is_some (sym (held_at p.octets p.next p.places slot n i t) ∙ e))
+-- what was laid, as the octets of the segment
+pub laid_octets : (old new : List (List ℕ)) (next : List ℕ) (first : ℕ) (seg : Content) (xs : List ℕ) (k : ℕ) → xs ≡ octets seg → k ≡ blocks_for (count seg) → Laid old new next first xs (blocks_for (length xs)) → Laid old new next first (octets seg) k
+laid_octets old new next first seg xs k x c laid =
+    let P : List ℕ → Type 0 = λ z. Laid old new next first z (blocks_for (length z)) in
+    let Q : ℕ → Type 0 = λ z. Laid old new next first (octets seg) z in
+    let n : blocks_for (length (octets seg)) ≡ k = ap (λ z. blocks_for z) (length-octets seg) ∙ sym c in
+    subst Q n (subst P x laid)
 
--- what a slot has in use is not above what all have
-pub slot_used : (p : Pool) (slot : ℕ) → slot < slot_count → get_or p.used.of slot 0 ≤ p.used.all
-slot_used p slot low =
-    let c = p.counted slot (omega (arith, p.long.3)) in
-    let b = slot_below pool_shape (holding p) slot low in
-    omega (arith, p.all)
+-- counts that are added up
+sum_of : (f : ℕ → ℕ) (xs : List ℕ) → ((i : ℕ) → i < length xs → get_or xs i 0 ≡ f i) → (n : ℕ) → n ≤ length xs → sum (take n xs) ≡ sum_below f n
+unfolding sum_below
+sum_of f xs each zero h = refl
+sum_of f xs each (suc n) h =
+    let t = sum_by_more (λ x. x) xs n 0 (omega arith) in
+    let s = sum_of f xs each n (omega arith) in
+    let e = each n (omega arith) in
+    ap (λ z. sum (take z xs)) (sym (add-one n)) ∙ omega arith
+
+module _ (p : Pool) where
+  abbrev used : ℕ
+  used = units pool_shape (holding p)
+
+  pub sound : Sound p.places (links p.chains) p.free.block used
+  sound = record { all = p.all; within = p.within; apart = disjoint (links p.chains) (head p.places p.free.block) (size p.places used) p.apart }
+
+  -- what a slot has in use is not above what all have
+  pub slot_used : (slot : ℕ) → slot < slot_count → get_or p.used slot 0 ≤ used
+  slot_used slot low =
+      let c = p.counted slot (omega (arith, p.slots)) in
+      let b = slot_below pool_shape (holding p) slot low in
+      omega arith
+
+  pub used_sum : sum p.used ≡ units pool_shape (holding p)
+  used_sum =
+      ap sum (sym (take_all (length p.used) p.used (omega arith)))
+      ∙ sum_of (slot_units blocks_for (holding p)) p.used p.counted (length p.used) (omega arith)
+      ∙ ap (sum_below (slot_units blocks_for (holding p))) p.slots
 
 module _ (p : Pool) (slot n i : ℕ) (t : There slot_count slot n i) where
   low : i < place_count
   low = omega (arith, t.low, t.few, t.is)
 
+  pub vacant_at : holding p slot n ≡ None → stored p.places i ≡ None
+  vacant_at e =
+      none_if (stored p.places i) (sym (taken_at (parts p.chains) (links p.chains) p.places slot n i t) ∙ ap is_some e)
+
   -- a segment came
-  module _ (none : holding p slot n ≡ None) (seg : Segment) (short : count seg ≤ most_octets) (xs : List ℕ) (x : xs ≡ octets seg) (l : Lengths) (m : l ≡ lengths_of seg) (k : ℕ) (c : k ≡ blocks_for (count seg)) (room : k ≤ block_count - p.used.all) (octs : List ℕ) (laid : Laid p.octets octs p.next p.free xs (blocks_for (length xs))) where
-    blocks : blocks_for (length xs) ≡ k
-    blocks = ap (λ z. blocks_for z) (ap length x ∙ length-octets seg) ∙ sym c
+  module _ (none : holding p slot n ≡ None) (seg : Content) (q : Stored) (m : q.lengths ≡ lengths_of seg) (f : q.first.block ≡ p.free.block) (k : ℕ) (c : k ≡ blocks_for (count seg)) (room : k ≤ block_count - units pool_shape (holding p)) (octs : List (List ℕ)) (laid : Laid (parts p.chains) octs (links p.chains) p.free.block (octets seg) k) where
+    came : held_in octs (links p.chains) (set p.places i (Some q)) ≡ replaced (holding p) slot n (Some seg)
+    came = filled_held p.places (parts p.chains) octs (links p.chains) p.free.block (units pool_shape (holding p)) (sound p) slot n i t (vacant_at none) seg q m f k c room laid
 
-    laid_k : Laid p.octets octs p.next p.free xs k
-    laid_k = let P : ℕ → Type 0 = λ z. Laid p.octets octs p.next p.free xs z in subst P blocks laid
-
-    pub filled-holding : held_in octs p.next (set p.places i (Some (record { lengths = l; first = p.free }))) ≡ replaced (holding p) slot n (Some seg)
-    filled-holding = filled_held p.places p.octets octs p.next p.free p.used.all (sound p) slot n i t (vacant_at p slot n i t none) seg short xs x l m k c room laid_k
-
-    kept_more : (free : ℕ) → free ≡ walk p.next p.free k → Kept (set p.places i (Some (record { lengths = l; first = p.free }))) octs p.next free (more p.used slot k)
-    kept_more free f =
-        let ps = set p.places i (Some (record { lengths = l; first = p.free })) in
-        let s = sound p in
-        let v = vacant_at p slot n i t none in
-        let unpaid : paid blocks_for (holding p slot n) ≡ 0 = ap (paid blocks_for) none in
+    more : units pool_shape (held_in octs (links p.chains) (set p.places i (Some q))) ≡ units pool_shape (holding p) + k
+    more =
         let u = units-replaced pool_shape (holding p) slot n (Some seg) t.low t.few in
-        let z = ap (units pool_shape) filled-holding in
-        let long = ap count_of m in
-        let I : ℕ → Type 0 = λ y. Inside p.next (head ps y) (size' ps) in
-        let A : ℕ → Type 0 = λ y. Apart p.next (head ps y) (size' ps) in (
-          (length-set p.places i _ ∙ p.long.0, laid.long ∙ p.long.1, p.long.2, length-set p.used.of slot _ ∙ p.long.3),
-          (
-            omega (arith, p.within),
-            (
-              subst I (sym f) (filled_inside p.places p.octets octs p.next p.free p.used.all s slot n i t v seg short xs x l m k c room laid_k),
-              (
-                subst A (sym f) (apart_from p.next (head ps (walk p.next p.free k)) (size' ps) (filled_apart p.places p.octets octs p.next p.free p.used.all s slot n i t v seg short xs x l m k c room laid_k)),
-                (
-                  fitting_set p.places i _ (omega (arith, low, p.long.0)) p.fitting (omega arith),
-                  (
-                    omega (arith, p.all),
-                    (
-                      counted_held blocks_for _ _ _ filled-holding (counted_replaced blocks_for (holding p) slot n (Some seg) p.used.of (get_or p.used.of slot 0 + k) (omega (arith, t.low, p.long.3)) t.few p.counted (omega arith)),
-                      tt,
-                    ),
-                  ),
-                ),
-              ),
-            ),
-          ),
-        )
-      where
-        size' : List (Option Place) → ℕ → ℕ
-        size' ps = size ps (p.used.all + k)
+        let o : paid blocks_for (holding p slot n) ≡ 0 = ap (paid blocks_for) none in
+        ap (units pool_shape) came ∙ omega arith
 
-    pub filled-kept : (free : ℕ) → free ≡ walk p.next p.free k → (used : Used) → used ≡ more p.used slot k → Kept (set p.places i (Some (record { lengths = l; first = p.free }))) octs p.next free used
-    filled-kept free f used u =
-        let P : Used → Type 0 = λ z. Kept (set p.places i (Some (record { lengths = l; first = p.free }))) octs p.next free z in
-        subst P (sym u) (kept_more free f)
+    kept_more : Kept (set p.places i (Some q)) octs (links p.chains) (walk (links p.chains) p.free.block k) (set p.used slot (get_or p.used slot 0 + k))
+    kept_more =
+        let ps = set p.places i (Some q) in
+        let first = walk (links p.chains) p.free.block k in
+        let o : paid blocks_for (holding p slot n) ≡ 0 = ap (paid blocks_for) none in
+        let P : ℕ → Type 0 = λ z. Apart (links p.chains) (head ps first) (size ps z) in
+        record {
+          all = length-set p.places i _ ∙ p.all;
+          slots = length-set p.used slot _ ∙ p.slots;
+          within = omega (arith, more, p.within);
+          apart = subst P (sym more) (apart_from (links p.chains) (head ps first) (size ps (units pool_shape (holding p) + k)) (filled_apart p.places (parts p.chains) octs (links p.chains) p.free.block (units pool_shape (holding p)) (sound p) slot n i t (vacant_at none) seg q m f k c room laid));
+          counted = counted_held blocks_for _ _ _ came (counted_replaced blocks_for (holding p) slot n (Some seg) p.used (get_or p.used slot 0 + k) (omega (arith, t.low, p.slots)) t.few p.counted (omega arith));
+        }
+
+    pub filled_holding : (next : List ℕ) → next ≡ links p.chains → held_in octs next (set p.places i (Some q)) ≡ replaced (holding p) slot n (Some seg)
+    filled_holding next e = rw e came
+
+    pub filled_kept : (next : List ℕ) (free : ℕ) → next ≡ links p.chains → free ≡ walk next p.free.block k → Kept (set p.places i (Some q)) octs next free (set p.used slot (get_or p.used slot 0 + k))
+    filled_kept next free e g = let g' : free ≡ walk (links p.chains) p.free.block k = g ∙ ap (λ z. walk z p.free.block k) e in rw (e, g') kept_more
 
   -- a segment went
-  module _ (q : Place) (e : place p.places i ≡ Some q) (k : ℕ) (c : k ≡ blocks_for (count_of q.lengths)) where
+  module _ (q : Stored) (e : stored p.places i ≡ Some q) (k : ℕ) (c : k ≡ blocks_for (count_of q.lengths)) where
     paid_k : paid blocks_for (holding p slot n) ≡ k
-    paid_k = ap (paid blocks_for) (held_at p.octets p.next p.places slot n i t) ∙ paid_at p.places p.octets p.next p.free p.used.all (sound p) i low q e ∙ sym c
+    paid_k = ap (paid blocks_for) (held_at (parts p.chains) (links p.chains) p.places slot n i t) ∙ rw e (paid_laid p.chains q ∙ sym c)
 
-    pub enough_in : k ≤ get_or p.used.of slot 0
+    pub enough_in : k ≤ get_or p.used slot 0
     enough_in =
-        let a = p.counted slot (omega (arith, t.low, p.long.3)) in
+        let a = p.counted slot (omega (arith, t.low, p.slots)) in
         let b = paid_below blocks_for (holding p) slot n t.few in
         omega (arith, paid_k)
 
-    pub enough : k ≤ p.used.all
-    enough = omega (arith, enough_in, slot_used p slot t.low)
+    in_all : k ≤ units pool_shape (holding p)
+    in_all = omega (arith, enough_in, slot_used p slot t.low)
 
-    pub released_holding : (next : List ℕ) → next ≡ set p.next (walk p.next q.first (k - 1)) p.free → held_in p.octets next (set p.places i None) ≡ replaced (holding p) slot n None
-    released_holding next f =
-        ap (λ z. held_in p.octets z (set p.places i None)) f
-        ∙ released_held p.places p.octets p.next p.free p.used.all (sound p) slot n i t q e k c enough
+    inside : walk (links p.chains) q.first.block (k - 1) < length (links p.chains)
+    inside = omega (arith, walk_inside p.chains q.first (k - 1), length-links p.chains)
 
-    kept_less : (next : List ℕ) → next ≡ set p.next (walk p.next q.first (k - 1)) p.free → Kept (set p.places i None) p.octets next q.first (less p.used slot k)
-    kept_less next f =
-        let ps = set p.places i None in
-        let s = sound p in
+    gone : held_in (parts p.chains) (set (links p.chains) (walk (links p.chains) q.first.block (k - 1)) p.free.block) (set p.places i None) ≡ replaced (holding p) slot n None
+    gone = released_held p.places (parts p.chains) (links p.chains) p.free.block (units pool_shape (holding p)) (sound p) slot n i t q e k c in_all inside
+
+    less : units pool_shape (held_in (parts p.chains) (set (links p.chains) (walk (links p.chains) q.first.block (k - 1)) p.free.block) (set p.places i None)) ≡ units pool_shape (holding p) - k
+    less =
         let u = units-replaced pool_shape (holding p) slot n None t.low t.few in
-        let z = ap (units pool_shape) (released_holding next f) in
-        let heads = head ps q.first in
-        let sizes = size ps (p.used.all - k) in
-        let I : List ℕ → Type 0 = λ y. Inside y heads sizes in
-        let A : List ℕ → Type 0 = λ y. Apart y heads sizes in (
-          (length-set p.places i _ ∙ p.long.0, p.long.1, ap length f ∙ length-set p.next _ _ ∙ p.long.2, length-set p.used.of slot _ ∙ p.long.3),
-          (
-            omega (arith, p.within),
-            (
-              subst I (sym f) (released_inside p.places p.octets p.next p.free p.used.all s slot n i t q e k c enough),
-              (
-                subst A (sym f) (apart_from (set p.next (walk p.next q.first (k - 1)) p.free) heads sizes (released_apart p.places p.octets p.next p.free p.used.all s slot n i t q e k c enough)),
-                (
-                  fitting_set p.places i None (omega (arith, low, p.long.0)) p.fitting (omega arith),
-                  (
-                    omega (arith, p.all, paid_k, enough),
-                    (
-                      counted_held blocks_for _ _ _ (released_holding next f) (counted_replaced blocks_for (holding p) slot n None p.used.of (get_or p.used.of slot 0 - k) (omega (arith, t.low, p.long.3)) t.few p.counted (omega (arith, paid_k, enough_in))),
-                      tt,
-                    ),
-                  ),
-                ),
-              ),
-            ),
-          ),
-        )
+        ap (units pool_shape) gone ∙ omega (arith, paid_k)
 
-    pub released_kept : (next : List ℕ) → next ≡ set p.next (walk p.next q.first (k - 1)) p.free → (used : Used) → used ≡ less p.used slot k → Kept (set p.places i None) p.octets next q.first used
-    released_kept next f used u =
-        let P : Used → Type 0 = λ z. Kept (set p.places i None) p.octets next q.first z in
-        subst P (sym u) (kept_less next f)
+    kept_less : Kept (set p.places i None) (parts p.chains) (set (links p.chains) (walk (links p.chains) q.first.block (k - 1)) p.free.block) q.first.block (set p.used slot (get_or p.used slot 0 - k))
+    kept_less =
+        let ps = set p.places i None in
+        let next = set (links p.chains) (walk (links p.chains) q.first.block (k - 1)) p.free.block in
+        let P : ℕ → Type 0 = λ z. Apart next (head ps q.first.block) (size ps z) in
+        record {
+          all = length-set p.places i _ ∙ p.all;
+          slots = length-set p.used slot _ ∙ p.slots;
+          within = omega (arith, less, p.within);
+          apart = subst P (sym less) (apart_from next (head ps q.first.block) (size ps (units pool_shape (holding p) - k)) (released_apart p.places (parts p.chains) (links p.chains) p.free.block (units pool_shape (holding p)) (sound p) slot n i t q e k c in_all inside));
+          counted = counted_held blocks_for _ _ _ gone (counted_replaced blocks_for (holding p) slot n None p.used (get_or p.used slot 0 - k) (omega (arith, t.low, p.slots)) t.few p.counted (omega (arith, paid_k, enough_in)));
+        }
+
+    pub released_holding : (octs : List (List ℕ)) (next : List ℕ) → octs ≡ parts p.chains → next ≡ set (links p.chains) (walk (links p.chains) q.first.block (k - 1)) p.free.block → held_in octs next (set p.places i None) ≡ replaced (holding p) slot n None
+    released_holding octs next a b = rw (a, b) gone
+
+    pub released_kept : (octs : List (List ℕ)) (next : List ℕ) → octs ≡ parts p.chains → next ≡ set (links p.chains) (walk (links p.chains) q.first.block (k - 1)) p.free.block → Kept (set p.places i None) octs next q.first.block (set p.used slot (get_or p.used slot 0 - k))
+    released_kept octs next a b = rw (a, b) kept_less

@@ -1,7 +1,7 @@
 -- The meaning of the pool as a store.
 use Rattle.store.specs.Meaning.{Held}
 use Rattle.pool.specs.declared.Pool.{Pool}
-use Rattle.pool.specs.Chains.{held_in}
+use Rattle.pool.specs.Chains.{links, parts, held_in}
 
 abbrev pub holding : Pool → Held
-holding p = held_in p.octets p.next p.places
+holding p = held_in (parts p.chains) (links p.chains) p.places

@@ -15,10 +15,6 @@ block_count = 512
 abbrev pub block_octets : ℕ
 block_octets = 32
 
--- the octets of all blocks
-abbrev pub pool_octets : ℕ
-pool_octets = 16384
-
 -- the cost of so many octets: a block for each 32 that are begun, and one where there are none
 abbrev pub blocks_for : ℕ → ℕ
 blocks_for n = max 1 ((n + 31) / 32)

@@ -1,99 +1,59 @@
 // The calls of the pool.
-ghost use Rattle.std.specs.Prelude.{◌≡◌, ℕ, ◌+◌, ◌-◌, ◌<◌, ◌≤◌, length, is_some, if◌then◌else◌, None, Ok, Err, nat_lt, slice_index};
-ghost use Rattle.store.specs.declared.StoreFault.TheVariants.{Occupied, NoUnits};
-ghost use Rattle.store.specs.Meaning.{nothing, count, segment, replaced, with_segment, without_slot};
+ghost use Rattle.std.specs.Prelude.{◌≡◌, ℕ, ◌<◌, ◌≤◌, if◌then◌else◌, None, Ok, Err, nat_lt};
+ghost use Rattle.store.specs.declared.StoreFault.TheVariants.{NotHeld, NoUnits};
+ghost use Rattle.store.specs.Meaning.{nothing, content, count, replaced, units_free, with_segment, without_slot};
 ghost use Rattle.store.specs.Numbers.{number_count, most_octets};
-ghost use Rattle.pool.specs.Numbers.{slot_count, place_count, block_count, blocks_for, pool_shape};
-ghost use Rattle.pool.specs.Chains.{place, more, less};
+ghost use Rattle.store.specs.Outcomes.{at_place, index};
+ghost use Rattle.std.specs.Option.{ok_or};
+ghost use Rattle.pool.specs.Numbers.{slot_count, place_count, blocks_for, pool_shape};
+ghost use Rattle.pool.specs.Chains.{links, parts, stored};
 ghost use Rattle.pool.specs.Holding.{holding};
-ghost use Rattle.pool.specs.Tables;
-ghost use Rattle.pool.specs.Tables.{sound, units_within, all_placed};
+ghost use Rattle.pool.specs.Laws;
+ghost use Rattle.pool.specs.Laws.{all_placed};
 
-use crate::chains::{blocks_for, gather, lay, link_end};
+use crate::Pool;
+use crate::blocks::{Blocks, Link, blocks_for};
 use crate::numbers::*;
-use crate::{Place, Pool, Used};
+use crate::stored::Stored;
+use store::checks::{check_memory, check_octets, check_slot, check_vacant};
 use store::numbers::*;
-use store::segments::{judge_place, octet_count, write};
-use store::{Lengths, Store, StoreFault};
-
-// Links from each block to the one after it.
-fn links() -> [u16; BLOCKS]
-    ensures long { length result ≡ block_count }
-    ensures each { (b : ℕ) → b + 1 < block_count → slice_index result b ≡ b + 1 }
-{
-    let mut next = [0u16; BLOCKS];
-    for b in 0..BLOCKS - 1 {
-        next[b] = b as u16 + 1;
-    }
-    next
-}
-
-impl Used {
-    fn add(&mut self, slot: usize, blocks: usize)
-        requires low { slot < slot_count }
-        requires all { self.old.all + blocks ≤ block_count }
-        requires of { slice_index self.old.of slot ≤ self.old.all }
-        ensures { self.new ≡ more self.old slot blocks }
-    {
-        self.all += blocks;
-        self.of[slot] += blocks;
-    }
-
-    fn subtract(&mut self, slot: usize, blocks: usize)
-        requires low { slot < slot_count }
-        requires all { blocks ≤ self.old.all }
-        requires of { blocks ≤ slice_index self.old.of slot }
-        ensures { self.new ≡ less self.old slot blocks }
-    {
-        self.all -= blocks;
-        self.of[slot] -= blocks;
-    }
-}
+use store::{Lengths, Place, Segment, Store, StoreFault};
 
 impl Pool {
     // A pool that holds nothing.
     pub fn new() -> Pool
         ensures { holding result ≡ nothing }
     {
-        let vacant: Option<Place> = None;
-        let next = links();
+        let vacant: Option<Stored> = None;
         Pool {
             places: [vacant; PLACES],
-            octets: [0; POOL_OCTETS],
-            next,
-            free: 0,
-            used: Used {
-                all: 0,
-                of: [0; SLOTS],
-            },
+            chains: Blocks::new(),
+            free: Link::to(0),
+            used: [0; SLOTS],
         }
     }
 
     // What stands at a place.
-    fn place_at(&self, i: usize) -> Option<Place>
-        requires { i < place_count }
-        ensures { result ≡ place self.now.places i }
+    fn stored_at(&self, index: usize) -> Option<Stored>
+        requires { index < place_count }
+        ensures { result ≡ stored self.now.places index }
     {
-        let all = &self.places;
-        all[i]
+        self.places[index]
     }
 
-    // Refuses a place that holds a segment.
-    fn check_vacant(&self, i: usize) -> Result<(), StoreFault>
-        requires { i < place_count }
-        ensures { result ≡ (if is_some (place self.now.places i) then Err Occupied else Ok tt) }
+    // What is held at a place.
+    fn find(&self, place: Place) -> Result<Stored, StoreFault>
+        ensures { result ≡ at_place pool_shape place.slot place.number (ok_or (stored self.now.places (index place.slot place.number)) NotHeld) }
     {
-        if self.place_at(i).is_some() {
-            return Err(StoreFault::Occupied);
-        }
-        Ok(())
+        let i = place.index(SLOTS)?;
+        self.stored_at(i).ok_or(StoreFault::NotHeld)
     }
 
     // Refuses more units than are free.
     fn check_room(&self, cost: usize) -> Result<(), StoreFault>
-        ensures { result ≡ (if nat_lt (block_count - self.now.used.all) cost then Err (NoUnits cost (block_count - self.now.used.all)) else Ok tt) }
+        ensures { result ≡ (if nat_lt (units_free pool_shape (holding self.now)) cost then Err (NoUnits cost (units_free pool_shape (holding self.now))) else Ok tt) }
     {
-        let free = BLOCKS - self.used.all;
+        let free = BLOCKS - self.units_held();
         if cost > free {
             return Err(StoreFault::NoUnits { cost, free });
         }
@@ -101,22 +61,24 @@ impl Pool {
     }
 
     // Puts a segment into the first free blocks.
-    fn fill(&mut self, slot: usize, number: usize, message: &[u8], area: Option<&[u8]>)
+    fn fill(&mut self, slot: usize, number: usize, segment: Segment<'_>)
         requires low { slot < slot_count }
         requires few { number < number_count }
-        requires short { count (segment message.now area) ≤ most_octets }
+        requires short { count (content segment) ≤ most_octets }
         requires vacant { holding self.old slot number ≡ None }
-        requires room { blocks_for (count (segment message.now area)) ≤ block_count - self.old.used.all }
-        ensures { holding self.new ≡ with_segment (holding self.old) slot number (segment message.now area.entry) }
+        requires room { blocks_for (count (content segment)) ≤ units_free pool_shape (holding self.old) }
+        ensures { holding self.new ≡ with_segment (holding self.old) slot number (content segment.entry) }
     {
-        let count = octet_count(message, area);
+        let count = segment.octet_count();
+        let cost = blocks_for(count);
         let mut joined = [0u8; MOST_OCTETS];
-        write(&mut joined, message, area);
+        segment.write_to(&mut joined);
         let first = self.free;
-        self.free = lay(&mut self.octets, &self.next, first, &joined[0..count]);
-        let lengths = Lengths::of(message, area);
-        self.places[slot * NUMBERS + number] = Some(Place { lengths, first });
-        self.used.add(slot, blocks_for(count));
+        self.chains.lay(first, &joined[..count]);
+        self.free = self.chains.follow(first, cost);
+        let lengths = segment.lengths();
+        self.places[slot * NUMBERS + number] = Some(Stored { lengths, first });
+        self.used[slot] += cost;
     }
 
     // Lets go of what one place holds: its chain is put before the free blocks.
@@ -126,14 +88,14 @@ impl Pool {
         ensures { holding self.new ≡ replaced (holding self.old) slot number None }
     {
         let i = slot * NUMBERS + number;
-        let Some(place) = self.place_at(i) else {
+        let Some(stored) = self.stored_at(i) else {
             return;
         };
-        let cost = blocks_for(place.lengths.count());
-        link_end(&mut self.next, place.first, cost, self.free);
-        self.free = place.first;
+        let cost = blocks_for(stored.lengths.count());
+        self.chains.link_end(stored.first, cost, self.free);
+        self.free = stored.first;
         self.places[i] = None;
-        self.used.subtract(slot, cost);
+        self.used[slot] -= cost;
     }
 
     // Lets go of what a slot holds.
@@ -152,34 +114,24 @@ impl Store for Pool {
 
     ghost shape = { λ _. pool_shape };
 
-    ghost lawful = { λ s. Tables.lawful };
+    ghost lawful = { λ s. Laws.lawful };
 
-    ghost within = { units_within };
+    ghost within = { λ s. s.within };
 
-    ghost placed = { λ s slot number. all_placed s.places s.octets s.next s.free s.used.all (sound s) slot number };
+    ghost placed = { λ s slot number. all_placed (parts s.chains) (links s.chains) s.places slot number };
 
-    fn put(
-        &mut self,
-        slot: usize,
-        number: u8,
-        message: &[u8],
-        area: Option<&[u8]>,
-    ) -> Result<(), StoreFault> {
-        let i = judge_place(SLOTS, slot, number)?;
-        let count = octet_count(message, area);
-        if count > MOST_OCTETS {
-            return Err(StoreFault::TooLong(count));
-        }
-        self.check_vacant(i)?;
+    fn put(&mut self, place: Place, segment: Segment<'_>) -> Result<(), StoreFault> {
+        let i = place.index(SLOTS)?;
+        let count = segment.octet_count();
+        check_octets(count)?;
+        check_vacant(self.stored_at(i).is_some())?;
         self.check_room(blocks_for(count))?;
-        self.fill(slot, usize::from(number), message, area);
+        self.fill(place.slot, usize::from(place.number), segment);
         Ok(())
     }
 
     fn drop_slot(&mut self, slot: usize) -> Result<(), StoreFault> {
-        if slot >= SLOTS {
-            return Err(StoreFault::NoSlot(slot));
-        }
+        check_slot(SLOTS, slot)?;
         self.clear(slot);
         Ok(())
     }
@@ -199,63 +151,41 @@ impl Store for Pool {
     }
 
     fn cost(&self, octets: usize) -> Result<usize, StoreFault> {
-        if octets > MOST_OCTETS {
-            return Err(StoreFault::TooLong(octets));
-        }
+        check_octets(octets)?;
         Ok(blocks_for(octets))
     }
 
     fn units_held(&self) -> usize {
-        self.used.all
+        self.used.iter().sum()
     }
 
     fn units_of(&self, slot: usize) -> Result<usize, StoreFault> {
-        if slot >= SLOTS {
-            return Err(StoreFault::NoSlot(slot));
-        }
-        Ok(self.used.of[slot])
+        check_slot(SLOTS, slot)?;
+        Ok(self.used[slot])
     }
 
-    fn is_held(&self, slot: usize, number: u8) -> Result<bool, StoreFault> {
-        let i = judge_place(SLOTS, slot, number)?;
-        Ok(self.place_at(i).is_some())
+    fn is_held(&self, place: Place) -> Result<bool, StoreFault> {
+        let i = place.index(SLOTS)?;
+        Ok(self.stored_at(i).is_some())
     }
 
-    fn lengths(&self, slot: usize, number: u8) -> Result<Lengths, StoreFault> {
-        let i = judge_place(SLOTS, slot, number)?;
-        match self.place_at(i) {
-            Some(place) => Ok(place.lengths),
-            None => Err(StoreFault::NotHeld),
-        }
+    fn lengths(&self, place: Place) -> Result<Lengths, StoreFault> {
+        Ok(self.find(place)?.lengths)
     }
 
-    fn equals(
-        &self,
-        slot: usize,
-        number: u8,
-        message: &[u8],
-        area: Option<&[u8]>,
-    ) -> Result<bool, StoreFault> {
-        let i = judge_place(SLOTS, slot, number)?;
-        let Some(place) = self.place_at(i) else {
-            return Err(StoreFault::NotHeld);
-        };
+    fn equals(&self, place: Place, segment: Segment<'_>) -> Result<bool, StoreFault> {
+        let stored = self.find(place)?;
+        let count = stored.lengths.count();
         let mut joined = [0u8; MOST_OCTETS];
-        let count = place.lengths.count();
-        gather(&self.octets, &self.next, place.first, count, &mut joined);
-        Ok(place.lengths.equals(&joined, message, area))
+        self.chains.gather(stored.first, &mut joined[..count]);
+        Ok(stored.lengths.equals(&joined, segment))
     }
 
-    fn copy_out(&self, slot: usize, number: u8, memory: &mut [u8]) -> Result<(), StoreFault> {
-        let i = judge_place(SLOTS, slot, number)?;
-        let Some(place) = self.place_at(i) else {
-            return Err(StoreFault::NotHeld);
-        };
-        let count = place.lengths.count();
-        if memory.len() < count {
-            return Err(StoreFault::Memory(memory.len()));
-        }
-        gather(&self.octets, &self.next, place.first, count, memory);
+    fn copy_out(&self, place: Place, memory: &mut [u8]) -> Result<(), StoreFault> {
+        let stored = self.find(place)?;
+        let count = stored.lengths.count();
+        check_memory(memory, count)?;
+        self.chains.gather(stored.first, &mut memory[..count]);
         Ok(())
     }
 }

@@ -1,46 +1,31 @@
 // A store whose segments lie in chains of small blocks, which all slots share.
 #![tactic(auto)]
 
-ghost use Rattle.std.specs.Prelude.{◌≡◌, ◌≤◌};
-ghost use Rattle.store.specs.Meaning.{Counted, units};
-ghost use Rattle.pool.specs.Numbers.{block_count, blocks_for, pool_shape};
-ghost use Rattle.pool.specs.Chains.{held_in, head, size, Long, Inside, Apart, Fitting};
+ghost use Rattle.std.specs.Prelude.{◌≡◌, ◌≤◌, length};
+ghost use Rattle.store.specs.Meaning.{Counted};
+ghost use Rattle.pool.specs.Numbers.{slot_count, place_count, block_count, blocks_for};
+ghost use Rattle.pool.specs.Chains.{links, parts, held_in, in_use, head, size, Apart};
 
+use crate::blocks::{Blocks, Link};
 use crate::numbers::*;
-use store::Lengths;
+use crate::stored::Stored;
 
-pub mod calls;
-pub mod chains;
+mod blocks;
+mod calls;
 pub mod numbers;
+mod stored;
 
-// A segment that is held: its lengths, and the first block of its chain.
-#[derive(Clone, Copy)]
-pub struct Place {
-    lengths: Lengths,
-    first: u16,
-}
-
-// The blocks in use: of all slots, and of each.
-#[derive(Clone, Copy)]
-pub struct Used {
-    all: usize,
-    of: [usize; SLOTS],
-}
-
-// Block b has the octets from 32 * b on, and `next[b]` is the block after it
-// in its chain. The free blocks are a chain from `free` on.
+// What stands at each place, the blocks of all places, the first free block,
+// and the blocks in use of each slot. The free blocks are a chain.
 #[derive(Drop)]
 pub struct Pool {
-    places: [Option<Place>; PLACES],
-    octets: [u8; POOL_OCTETS],
-    next: [u16; BLOCKS],
-    free: u16,
-    used: Used,
-    ghost long: { Long places octets next used.of },
-    ghost within: { used.all ≤ block_count },
-    ghost inside: { Inside next (head places free) (size places used.all) },
-    ghost apart: { Apart next (head places free) (size places used.all) },
-    ghost fitting: { Fitting places },
-    ghost all: { used.all ≡ units pool_shape (held_in octets next places) },
-    ghost counted: { Counted blocks_for (held_in octets next places) used.of },
+    places: [Option<Stored>; PLACES],
+    chains: Blocks,
+    free: Link,
+    used: [usize; SLOTS],
+    ghost all: { length places ≡ place_count },
+    ghost slots: { length used ≡ slot_count },
+    ghost within: { in_use (parts chains) (links chains) places ≤ block_count },
+    ghost apart: { Apart (links chains) (head places free.block) (size places (in_use (parts chains) (links chains) places)) },
+    ghost counted: { Counted blocks_for (held_in (parts chains) (links chains) places) used },
 }

@@ -9,6 +9,3 @@ pub const PLACES: usize = 576;
 pub const BLOCKS: usize = 512;
 
 pub const BLOCK_OCTETS: usize = 32;
-
-// The octets of all blocks.
-pub const POOL_OCTETS: usize = 16_384;

@@ -3,8 +3,9 @@ use Rattle.store.specs.Meaning.{replaced}
 use Rattle.store.specs.Numbers.{number_count}
 use Rattle.store.proofs.Changes.{without_below, below_none, below_more, below_all}
 use Rattle.pool.specs.Numbers.{pool_shape}
+use Rattle.pool.specs.Chains.{links, parts}
 use Rattle.pool.specs.Holding.{holding}
-use Rattle.pool.specs.Tables.{sound, all_placed}
+use Rattle.pool.specs.Laws.{all_placed}
 use Rattle.pool.proofs.Pool.clear.Goals as goal
 
 pub loop-number-init : goal.loop-number-init
@@ -16,6 +17,6 @@ loop-number-preserved c =
 
 pub returns : goal.returns
 returns c =
-    let s = c.args.self.now in
+    let p = c.args.self.now in
     let end : c.loop-number.number ≡ number_count = omega arith in
-    c.loop-number.invariant ∙ ap (λ n. without_below (holding s) c.args.slot n) end ∙ below_all pool_shape (holding s) c.args.slot (all_placed s.places s.octets s.next s.free s.used.all (sound s))
+    c.loop-number.invariant ∙ ap (without_below (holding p) c.args.slot) end ∙ below_all pool_shape (holding p) c.args.slot (all_placed (parts p.chains) (links p.chains) p.places)

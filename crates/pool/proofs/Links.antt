@@ -3,9 +3,8 @@ use Rattle.std.specs.Prelude.{◌≡◌, ℕ, zero, suc, ◌+◌, ◌-◌, ◌<�
 use Rattle.std.proofs.Common.{sym, ◌∙◌, ap, ⊎_elim, arith, add-suc, add-zero}
 use Rattle.std.proofs.lemmas.List.{get_or-set_same, get_or-set_other}
 use Rattle.std.proofs.lemmas.Bool.{cases_eq, cases_lt}
-use Rattle.pool.specs.Numbers.{block_count}
-use Rattle.pool.specs.Chains.{walk, Inside, Apart}
-use Rattle.pool.specs.Blocks.{walk_more}
+use Rattle.pool.specs.Chains.{walk, Apart}
+use Rattle.pool.proofs.Gathered.{walk_more}
 
 -- `Apart`, with its positions one by one
 abbrev pub Disjoint : List ℕ → (ℕ → ℕ) → (ℕ → ℕ) → Type 0
@@ -49,7 +48,7 @@ same_origin d free k e f i j from at (other a b c g) (left a' c' g') = absurd (b
 same_origin d free k e f i j from at (other a b c g) (other a' b' c' g') = (omega arith, omega arith)
 
 -- the first k free blocks become the chain of d
-module _ (next : List ℕ) (heads heads' sizes sizes' : ℕ → ℕ) (d free k : ℕ) (differ : d ≡ free → ⊥) (room : k ≤ sizes free) (inside : Inside next heads sizes) (apart : Disjoint next heads sizes) (hd : heads' d ≡ heads free) (hf : heads' free ≡ walk next (heads free) k) (ho : (e : ℕ) → (e ≢ d) → (e ≢ free) → heads' e ≡ heads e) (sd : sizes' d ≡ k) (sf : sizes' free ≡ sizes free - k) (so : (e : ℕ) → (e ≢ d) → (e ≢ free) → sizes' e ≡ sizes e) where
+module _ (next : List ℕ) (heads heads' sizes sizes' : ℕ → ℕ) (d free k : ℕ) (differ : d ≡ free → ⊥) (room : k ≤ sizes free) (apart : Disjoint next heads sizes) (hd : heads' d ≡ heads free) (hf : heads' free ≡ walk next (heads free) k) (ho : (e : ℕ) → (e ≢ d) → (e ≢ free) → heads' e ≡ heads e) (sd : sizes' d ≡ k) (sf : sizes' free ≡ sizes free - k) (so : (e : ℕ) → (e ≢ d) → (e ≢ free) → sizes' e ≡ sizes e) where
   record Was (e i : ℕ) : Type 0 where
     from : ℕ
     at : ℕ
@@ -72,9 +71,6 @@ module _ (next : List ℕ) (heads heads' sizes sizes' : ℕ → ℕ) (d free k :
       record { from = e; at = i; low = omega arith; same = ap (λ z. walk next z i) (ho e p q); origin = other p q refl refl })
       (cases_eq e free))
       (cases_eq e d)
-
-  pub taken_inside : Inside next heads' sizes'
-  taken_inside e i h = let w = was e i h in let t = inside w.from w.at w.low in rw w.same t
 
   pub taken_apart : Disjoint next heads' sizes'
   taken_apart e f i j h l z =
@@ -100,21 +96,11 @@ same_source d free k e f i j from at ne (other a b c g) (front a' b' c') = absur
 same_source d free k e f i j from at ne (other a b c g) (back a' b' c') = absurd (b (omega arith))
 same_source d free k e f i j from at ne (other a b c g) (other a' b' c' g') = (omega arith, omega arith)
 
--- the chain of d is put before the free blocks
-module _ (next : List ℕ) (heads heads' sizes sizes' : ℕ → ℕ) (d free : ℕ) (differ : d ≡ free → ⊥) (all : length next ≡ block_count) (some : 1 ≤ sizes d) (inside : Inside next heads sizes) (apart : Disjoint next heads sizes) where
-  k : ℕ
-  k = sizes d
+-- the chain of d is put before the free blocks: the ways before and after
+pub walk_other : (next : List ℕ) (heads sizes : ℕ → ℕ) (d free : ℕ) → 1 ≤ sizes d → Disjoint next heads sizes → (e i : ℕ) → (e ≢ d) → i ≤ sizes e → walk (slice_set next (walk next (heads d) (sizes d - 1)) (heads free)) (heads e) i ≡ walk next (heads e) i
+walk_other next heads sizes d free some apart e i ne h = walk-set next (walk next (heads d) (sizes d - 1)) (heads free) (heads e) i (λ j l z. ne (apart e d j (sizes d - 1) (omega arith) (omega arith) z).0)
 
-  last : ℕ
-  last = walk next (heads d) (sizes d - 1)
-
-  linked : List ℕ
-  linked = slice_set next last (heads free)
-
-  -- the ways before and after
-  pub walk_other : (e i : ℕ) → (e ≢ d) → i ≤ sizes e → walk (slice_set next (walk next (heads d) (sizes d - 1)) (heads free)) (heads e) i ≡ walk next (heads e) i
-  walk_other e i ne h = walk-set next (walk next (heads d) (sizes d - 1)) (heads free) (heads e) i (λ j l z. ne (apart e d j (sizes d - 1) (omega arith) (omega arith) z).0)
-
+module _ (next : List ℕ) (heads heads' sizes sizes' : ℕ → ℕ) (d free : ℕ) (differ : d ≡ free → ⊥) (some : 1 ≤ sizes d) (last : walk next (heads d) (sizes d - 1) < length next) (apart : Disjoint next heads sizes) where
   walk_front : (i : ℕ) → i < sizes d → walk (slice_set next (walk next (heads d) (sizes d - 1)) (heads free)) (heads d) i ≡ walk next (heads d) i
   walk_front i h = walk-set next (walk next (heads d) (sizes d - 1)) (heads free) (heads d) i (λ j l z. let t = (apart d d j (sizes d - 1) (omega arith) (omega arith) z).1 in omega arith)
 
@@ -122,16 +108,15 @@ module _ (next : List ℕ) (heads heads' sizes sizes' : ℕ → ℕ) (d free : �
   walk_end =
       let e : sizes d ≡ sizes d - 1 + 1 = omega arith in
       let b = walk next (heads d) (sizes d - 1) in
-      let l = inside d (sizes d - 1) (omega arith) in
       ap (walk (slice_set next b (heads free)) (heads d)) e
       ∙ walk_more (slice_set next b (heads free)) (heads d) (sizes d - 1)
       ∙ ap (λ z. slice_index (slice_set next b (heads free)) z) (walk_front (sizes d - 1) (omega arith))
-      ∙ get_or-set_same next b (heads free) 0 (omega arith)
+      ∙ get_or-set_same next b (heads free) 0 last
 
   walk_back : (i : ℕ) → i < sizes free → walk (slice_set next (walk next (heads d) (sizes d - 1)) (heads free)) (heads d) (sizes d + i) ≡ walk next (heads free) i
   walk_back i h =
       let next' = set next (walk next (heads d) (sizes d - 1)) (heads free) in
-      sym (walk-walk next' (heads d) (sizes d) i) ∙ ap (λ z. walk next' z i) walk_end ∙ walk_other free i (λ z. differ (sym z)) (omega arith)
+      sym (walk-walk next' (heads d) (sizes d) i) ∙ ap (λ z. walk next' z i) walk_end ∙ walk_other next heads sizes d free some apart free i (λ z. differ (sym z)) (omega arith)
 
   module _ (hf : heads' free ≡ heads d) (ho : (e : ℕ) → (e ≢ d) → (e ≢ free) → heads' e ≡ heads e) (sd : sizes' d ≡ 0) (sf : sizes' free ≡ sizes free + sizes d) (so : (e : ℕ) → (e ≢ d) → (e ≢ free) → sizes' e ≡ sizes e) where
     record Came (e i : ℕ) : Type 0 where
@@ -159,12 +144,9 @@ module _ (next : List ℕ) (heads heads' sizes sizes' : ℕ → ℕ) (d free : �
         (λ (q : e ≡ d). let s = ap sizes' q in absurd (omega arith))
         (λ (q : e ≡ d → ⊥).
         let s = so e q p in
-        record { from = e; at = i; low = omega arith; same = ap (λ z. walk next' z i) (ho e q p) ∙ walk_other e i q (omega arith); source = other q p refl refl })
+        record { from = e; at = i; low = omega arith; same = ap (λ z. walk next' z i) (ho e q p) ∙ walk_other next heads sizes d free some apart e i q (omega arith); source = other q p refl refl })
         (cases_eq e d))
         (cases_eq e free)
-
-    pub freed_inside : Inside (slice_set next (walk next (heads d) (sizes d - 1)) (heads free)) heads' sizes'
-    freed_inside e i h = let w = came e i h in let t = inside w.from w.at w.low in rw w.same t
 
     pub freed_apart : Disjoint (slice_set next (walk next (heads d) (sizes d - 1)) (heads free)) heads' sizes'
     freed_apart e f i j h l z =

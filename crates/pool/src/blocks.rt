@@ -1,0 +1,148 @@
+// Blocks of octets, linked into chains.
+ghost use Rattle.std.specs.Prelude.{◌≡◌, ◌<◌, length};
+ghost use Rattle.pool.specs.Numbers.{block_count, block_octets, blocks_for};
+
+use crate::numbers::*;
+use octets::put;
+use std::array;
+
+// The number of a block.
+#[derive(Clone, Copy)]
+pub(crate) struct Link {
+    block: u16,
+    ghost there: { block < block_count },
+}
+
+// Octets of a segment, and the link to the block after them in the chain.
+#[derive(Clone, Copy)]
+struct Block {
+    octets: [u8; BLOCK_OCTETS],
+    next: Link,
+    ghost long: { length octets ≡ block_octets },
+}
+
+// All blocks of a pool.
+#[derive(Drop)]
+pub(crate) struct Blocks {
+    blocks: [Block; BLOCKS],
+    ghost all: { length blocks ≡ block_count },
+}
+
+// The blocks for so many octets.
+pub(crate) fn blocks_for(octets: usize) -> usize
+    ensures { result ≡ blocks_for octets }
+{
+    octets.div_ceil(BLOCK_OCTETS).max(1)
+}
+
+impl Link {
+    pub(crate) fn to(block: usize) -> Link
+        requires { block < block_count }
+        ensures { result.block ≡ block }
+    {
+        Link {
+            block: block as u16,
+        }
+    }
+
+    fn index(self) -> usize
+        ensures { result ≡ self.block }
+    {
+        usize::from(self.block)
+    }
+}
+
+impl Block {
+    ghost use Rattle.std.specs.Prelude.{◌≤◌};
+    ghost use Rattle.octets.specs.Octets.{written};
+
+    // The block with other octets at its start.
+    fn with(self, part: &[u8]) -> Block
+        requires { length part.now ≤ block_octets }
+        ensures octets { result.octets ≡ written 0 part.now self.octets }
+        ensures next { result.next ≡ self.next }
+    {
+        let mut octets = self.octets;
+        put(&mut octets, 0, part);
+        Block {
+            octets,
+            next: self.next,
+        }
+    }
+}
+
+impl Blocks {
+    ghost use Rattle.std.specs.Prelude.{ℕ, ◌+◌, ◌-◌, ◌≤◌, ◌%◌, take, slice_index, slice_set};
+    ghost use Rattle.pool.specs.Chains.{links, parts, walk, gathered, Straight, Laid};
+
+    // Blocks that are linked one after the other.
+    pub(crate) fn new() -> Blocks
+        ensures { (b : ℕ) → b + 1 < block_count → slice_index (links result) b ≡ b + 1 }
+    {
+        Blocks {
+            blocks: array::from_fn(
+                |b: usize| -> Block
+                    requires { b < block_count }
+                    ensures { result.next.block ≡ (b + 1) % block_count }
+                {
+                    Block {
+                        octets: [0; BLOCK_OCTETS],
+                        next: Link::to((b + 1) % BLOCKS),
+                    }
+                },
+            ),
+        }
+    }
+
+    // The block that is reached from the first one after so many links.
+    pub(crate) fn follow(&self, first: Link, count: usize) -> Link
+        ensures { result.block ≡ walk (links self.now) first.block count }
+    {
+        let mut link = first;
+        for _ in 0..count {
+            link = self.blocks[link.index()].next;
+        }
+        link
+    }
+
+    // Links the last block of a chain to another block.
+    pub(crate) fn link_end(&mut self, first: Link, count: usize, to: Link)
+        requires { 1 ≤ count }
+        ensures linked { links self.new ≡ slice_set (links self.old) (walk (links self.old) first.block (count - 1)) to.block }
+        ensures same { parts self.new ≡ parts self.old }
+    {
+        let last = self.follow(first, count - 1);
+        self.blocks[last.index()].next = to;
+    }
+
+    // Puts a segment's octets into the first blocks of a chain.
+    pub(crate) fn lay(&mut self, first: Link, segment: &[u8])
+        requires { Straight (links self.old) first.block (blocks_for (length segment.now)) }
+        ensures same { links self.new ≡ links self.old }
+        ensures laid { Laid (parts self.old) (parts self.new) (links self.old) first.block segment.now (blocks_for (length segment.now)) }
+    {
+        let mut link = first;
+        for part in segment.chunks(BLOCK_OCTETS) {
+            let at = link.index();
+            let block = self.blocks[at].with(part);
+            self.blocks[at] = block;
+            link = block.next;
+        }
+    }
+
+    // Fills the memory with the first octets of a chain.
+    pub(crate) fn gather(&self, first: Link, memory: &mut [u8])
+        ensures { memory.new ≡ take (length memory.old) (gathered (parts self.now) (links self.now) first.block (blocks_for (length memory.old))) }
+    {
+        let count = memory.len();
+        let mut link = first;
+        // Kept: by index, since after `chunks_mut` nothing is known of the octets.
+        for i in 0..count.div_ceil(BLOCK_OCTETS) {
+            let block = &self.blocks[link.index()];
+            let start = i * BLOCK_OCTETS;
+            let size = BLOCK_OCTETS.min(count - start);
+            put(memory, start, &block.octets[..size]);
+            link = block.next;
+        }
+    }
+}
