@@ -3,7 +3,7 @@ use Rattle.std.proofs.Common.{◌≡◌, ℕ, ◌<◌, ◌≤◌, ◌≢◌, tru
 use Rattle.std.proofs.Math.Path.{fun_ext}
 use Rattle.std.proofs.lemmas.List.{get_or-set_same, get_or-set_other}
 use Rattle.std.proofs.lemmas.Bool.{cases_eq, cases_lt, eq-eqb, ne_eqb}
-use Rattle.store.specs.Meaning.{Content, standing, count_of, lengths_of, replaced, paid}
+use Rattle.store.specs.Meaning.{Content, standing, count, count_of, lengths_of, replaced, paid}
 use Rattle.store.specs.Numbers.{number_count}
 use Rattle.store.specs.Outcomes.{index}
 use Rattle.store.proofs.Places.{There}
@@ -11,7 +11,7 @@ use Rattle.store.proofs.Standing.{lengths_standing}
 use Rattle.pool.specs.declared.blocks.Blocks.{Blocks}
 use Rattle.pool.specs.declared.stored.Stored.{Stored}
 use Rattle.pool.specs.Numbers.{slot_count, place_count, blocks_for}
-use Rattle.pool.specs.Chains.{links, parts, gathered, stored, first_of, blocks_of, laid_at, held_in, head, size}
+use Rattle.pool.specs.Chains.{links, parts, gathered, stored, first_of, blocks_of, segment_of, laid_at, held_in, head, size}
 use Rattle.pool.specs.Laws.{past, beyond, held_at}
 use Rattle.pool.proofs.Gathered.{length-gathered}
 
@@ -70,16 +70,19 @@ size_other ps used used' i q e ne nf = let n : eqb e place_count ≡ false = ne_
 pub enough : (b : Blocks) (q : Stored) → count_of q.lengths ≤ length (gathered (parts b) (links b) q.first.block (blocks_for (count_of q.lengths)))
 enough b q = let g = length-gathered b q.first (blocks_for (count_of q.lengths)) in omega arith
 
-pub lengths_laid : (b : Blocks) (q : Stored) → lengths_of (standing q.lengths (gathered (parts b) (links b) q.first.block (blocks_for (count_of q.lengths)))) ≡ q.lengths
+pub lengths_laid : (b : Blocks) (q : Stored) → lengths_of (segment_of (parts b) (links b) q) ≡ q.lengths
 lengths_laid b q = lengths_standing q.lengths _ (enough b q)
 
+pub count_laid : (b : Blocks) (q : Stored) → count (segment_of (parts b) (links b) q) ≡ count_of q.lengths
+count_laid b q = ap count_of (lengths_laid b q)
+
 pub paid_laid : (b : Blocks) (q : Stored) → paid blocks_for (laid_at (parts b) (links b) (Some q)) ≡ blocks_for (count_of q.lengths)
-paid_laid b q = ap (λ l. blocks_for (count_of l)) (lengths_laid b q)
+paid_laid b q = ap (λ k. blocks_for k) (count_laid b q)
 
 -- whether a place is taken
 is_some-laid_at : (octets : List (List ℕ)) (next : List ℕ) (o : Option Stored) → is_some o ≡ is_some (laid_at octets next o)
 is_some-laid_at octets next None = refl
 is_some-laid_at octets next (Some q) = refl
 
-pub taken_at : (octets : List (List ℕ)) (next : List ℕ) (ps : List (Option Stored)) (slot n i : ℕ) → There slot_count slot n i → is_some (held_in octets next ps slot n) ≡ is_some (stored ps i)
-taken_at octets next ps slot n i t = ap is_some (held_at octets next ps slot n i t) ∙ sym (is_some-laid_at octets next (stored ps i))
+pub held_taken : (octets : List (List ℕ)) (next : List ℕ) (ps : List (Option Stored)) (slot n i : ℕ) → There slot_count slot n i → is_some (held_in octets next ps slot n) ≡ is_some (stored ps i)
+held_taken octets next ps slot n i t = ap is_some (held_at octets next ps slot n i t) ∙ sym (is_some-laid_at octets next (stored ps i))

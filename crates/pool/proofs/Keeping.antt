@@ -15,7 +15,7 @@ use Rattle.pool.specs.Chains.{links, parts, walk, stored, held_in, in_use, head,
 use Rattle.pool.specs.Holding.{holding}
 use Rattle.pool.specs.Laws.{held_at}
 use Rattle.pool.proofs.Gathered.{length-links, walk_inside}
-use Rattle.pool.proofs.Held.{taken_at, paid_laid}
+use Rattle.pool.proofs.Held.{held_taken, paid_laid}
 use Rattle.pool.proofs.Links.{disjoint, apart_from}
 use Rattle.pool.proofs.Moves.{Sound, filled_apart, filled_held, released_apart, released_held}
 
@@ -76,7 +76,7 @@ module _ (p : Pool) (slot n i : ℕ) (t : There slot_count slot n i) where
 
   pub vacant_at : holding p slot n ≡ None → stored p.places i ≡ None
   vacant_at e =
-      none_if (stored p.places i) (sym (taken_at (parts p.chains) (links p.chains) p.places slot n i t) ∙ ap is_some e)
+      none_if (stored p.places i) (sym (held_taken (parts p.chains) (links p.chains) p.places slot n i t) ∙ ap is_some e)
 
   -- a segment came
   module _ (none : holding p slot n ≡ None) (seg : Content) (q : Stored) (m : q.lengths ≡ lengths_of seg) (f : q.first.block ≡ p.free.block) (k : ℕ) (c : k ≡ blocks_for (count seg)) (room : k ≤ block_count - units pool_shape (holding p)) (octs : List (List ℕ)) (laid : Laid (parts p.chains) octs (links p.chains) p.free.block (octets seg) k) where

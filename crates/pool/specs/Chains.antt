@@ -49,8 +49,11 @@ abbrev pub blocks_of : Option Stored → ℕ
 blocks_of p = unwrap_or (option_map (λ q. blocks_for (count_of q.lengths)) p) 0
 
 -- a segment stands in the blocks of its chain
+abbrev pub segment_of : List (List ℕ) → List ℕ → Stored → Content
+segment_of octets next q = standing q.lengths (gathered octets next q.first.block (blocks_for (count_of q.lengths)))
+
 abbrev pub laid_at : List (List ℕ) → List ℕ → Option Stored → Option Content
-laid_at octets next p = option_map (λ q. standing q.lengths (gathered octets next q.first.block (blocks_for (count_of q.lengths)))) p
+laid_at octets next p = option_map (segment_of octets next) p
 
 unfoldable pub held_in : List (List ℕ) → List ℕ → List (Option Stored) → Held
 held_in octets next places slot number =

@@ -1,12 +1,13 @@
 // The calls of the pool.
 ghost use Rattle.std.specs.Prelude.{◌≡◌, ℕ, ◌<◌, ◌≤◌, if◌then◌else◌, None, Ok, Err, nat_lt};
-ghost use Rattle.store.specs.declared.StoreFault.TheVariants.{NotHeld, NoUnits};
+ghost use Rattle.std.specs.Option.{option_map};
+ghost use Rattle.std.specs.Result.{result_map_both};
+ghost use Rattle.store.specs.declared.StoreFault.TheVariants.{NoUnits};
 ghost use Rattle.store.specs.Meaning.{nothing, content, count, replaced, units_free, with_segment, without_slot};
 ghost use Rattle.store.specs.Numbers.{number_count, most_octets};
-ghost use Rattle.store.specs.Outcomes.{at_place, index};
-ghost use Rattle.std.specs.Option.{ok_or};
+ghost use Rattle.store.specs.Outcomes.{at_place, look_up};
 ghost use Rattle.pool.specs.Numbers.{slot_count, place_count, blocks_for, pool_shape};
-ghost use Rattle.pool.specs.Chains.{links, parts, stored};
+ghost use Rattle.pool.specs.Chains.{links, parts, stored, segment_of};
 ghost use Rattle.pool.specs.Holding.{holding};
 ghost use Rattle.pool.specs.Laws;
 ghost use Rattle.pool.specs.Laws.{all_placed};
@@ -33,7 +34,7 @@ impl Pool {
         }
     }
 
-    // What stands at a place.
+    // What stands at an index of the table.
     fn stored_at(&self, index: usize) -> Option<Stored>
         requires { index < place_count }
         ensures { result ≡ stored self.now.places index }
@@ -41,12 +42,20 @@ impl Pool {
         self.places[index]
     }
 
-    // What is held at a place.
-    fn find(&self, place: Place) -> Result<Stored, StoreFault>
-        ensures { result ≡ at_place pool_shape place.slot place.number (ok_or (stored self.now.places (index place.slot place.number)) NotHeld) }
+    // What is held at a place, if anything is.
+    #[tactic(auto, using(crate::proofs::Found::found_at))]
+    fn find(&self, place: Place) -> Result<Option<Stored>, StoreFault>
+        ensures { result_map_both (option_map (segment_of (parts self.now.chains) (links self.now.chains))) (λ f. f) result ≡ at_place pool_shape place.slot place.number (Ok (holding self.now place.slot place.number)) }
     {
         let i = place.index(SLOTS)?;
-        self.stored_at(i).ok_or(StoreFault::NotHeld)
+        Ok(self.stored_at(i))
+    }
+
+    // What is held at a place, where nothing is refused.
+    fn look_up(&self, place: Place) -> Result<Stored, StoreFault>
+        ensures { result_map_both (segment_of (parts self.now.chains) (links self.now.chains)) (λ f. f) result ≡ look_up pool_shape (holding self.now) place.slot place.number }
+    {
+        self.find(place)?.ok_or(StoreFault::NotHeld)
     }
 
     // Refuses more units than are free.
@@ -120,6 +129,7 @@ impl Store for Pool {
 
     ghost placed = { λ s slot number. all_placed (parts s.chains) (links s.chains) s.places slot number };
 
+    #[tactic(auto, using(crate::proofs::Found::taken_at, crate::proofs::Found::vacant_at))]
     fn put(&mut self, place: Place, segment: Segment<'_>) -> Result<(), StoreFault> {
         let i = place.index(SLOTS)?;
         let count = segment.octet_count();
@@ -165,24 +175,26 @@ impl Store for Pool {
     }
 
     fn is_held(&self, place: Place) -> Result<bool, StoreFault> {
-        let i = place.index(SLOTS)?;
-        Ok(self.stored_at(i).is_some())
+        Ok(self.find(place)?.is_some())
     }
 
+    #[tactic(auto, using(crate::proofs::Held::lengths_laid))]
     fn lengths(&self, place: Place) -> Result<Lengths, StoreFault> {
-        Ok(self.find(place)?.lengths)
+        Ok(self.look_up(place)?.lengths)
     }
 
+    #[tactic(auto, using(crate::proofs::Found::standing_gathered))]
     fn equals(&self, place: Place, segment: Segment<'_>) -> Result<bool, StoreFault> {
-        let stored = self.find(place)?;
+        let stored = self.look_up(place)?;
         let count = stored.lengths.count();
         let mut joined = [0u8; MOST_OCTETS];
         self.chains.gather(stored.first, &mut joined[..count]);
         Ok(stored.lengths.equals(&joined, segment))
     }
 
+    #[tactic(auto, using(crate::proofs::Held::count_laid, crate::proofs::Found::copied_gathered))]
     fn copy_out(&self, place: Place, memory: &mut [u8]) -> Result<(), StoreFault> {
-        let stored = self.find(place)?;
+        let stored = self.look_up(place)?;
         let count = stored.lengths.count();
         check_memory(memory, count)?;
         self.chains.gather(stored.first, &mut memory[..count]);
