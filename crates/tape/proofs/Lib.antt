@@ -8,11 +8,10 @@ pub mod Gathers
 pub mod Outlines
 pub mod Bodies
 pub mod Readings
-pub mod Copies
 pub mod Steps
 pub mod Lists
 pub mod Ends
 pub mod Outcomes
 pub mod Judgements
 pub mod Continued
-mod Flags
+pub mod Flags

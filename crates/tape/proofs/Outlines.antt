@@ -1,7 +1,7 @@
--- Reading a head: what a command octet tells, and that the outline is one of a warning.
-use Rattle.std.proofs.Common.{◌≡◌, ℕ, ◌≤◌, Bool, true, false, cond, not, ◌&&◌, eqb, leb, length, replicate, is_some, IfOk, Some, None, Ok, Err, Result, sym, refl, ap, ◌∙◌, ⊎_elim, arith}
+-- An outline that is read is one of a warning.
+use Rattle.std.proofs.Common.{◌≡◌, ℕ, ◌≤◌, Bool, true, false, cond, not, ◌&&◌, eqb, leb, length, replicate, is_some, IfOk, Some, None, Ok, Err, Result, sym, refl, ap, ◌∙◌, ⊎_elim}
 use Rattle.std.proofs.lemmas.List.{length-replicate}
-use Rattle.std.proofs.lemmas.Bool.{eq-eqb, ne_eqb, cond-true, cond-false, leb-true, and_from}
+use Rattle.std.proofs.lemmas.Bool.{leb-true, and_from}
 use Rattle.std.specs.Option.{option_map}
 use Rattle.warning.specs.declared.Pair.{Pair}
 use Rattle.warning.specs.declared.Warning.{Warning}
@@ -10,29 +10,16 @@ use Rattle.warning.specs.Rules.{carries_message, without_area, limit, total, is_
 use Rattle.tape.specs.declared.fault.TapeFault.{TapeFault}
 use Rattle.tape.specs.declared.fault.TapeFault.TheVariants.{Unknown}
 use Rattle.tape.specs.Cursors.{gave}
-use Rattle.tape.specs.Heads.{primary_outline, message_outline, outline_by, head}
-use Rattle.tape.specs.Reading.{Place, octet, number, number_to, pair_operands, present, most_flag, most_area}
+use Rattle.tape.specs.Heads.{primary_outline, message_outline, head}
+use Rattle.tape.specs.Reading.{Place, Read, octet, number, number_to, pair_operands, present, most_flag, most_area}
 use Rattle.tape.proofs.Takes.{then_elim, ok_parts, octet_ok, number_to_ok}
 use Rattle.tape.proofs.Entries.{area_read, one_of_two}
 
--- what a command octet tells
-pub by_primary : (command at : ℕ) (p : Place) → command ≡ 0x50 → primary_outline p ≡ outline_by command at p
-by_primary command at p e = sym (cond-true (eqb command 0x50) _ _ (eq-eqb command 0x50 e))
-
-pub by_message : (command at : ℕ) (p : Place) → command ≡ 0x4D → message_outline p ≡ outline_by command at p
-by_message command at p e =
-    sym (cond-false (eqb command 0x50) _ _ (ne_eqb command 0x50 (λ z. omega arith)) ∙ cond-true (eqb command 0x4D) _ _ (eq-eqb command 0x4D e))
-
-pub by_unknown : (command at : ℕ) (p : Place) → (command ≡ 0x50 → ⊥) → (command ≡ 0x4D → ⊥) → Err (Unknown at) ≡ outline_by command at p
-by_unknown command at p a b =
-    sym (cond-false (eqb command 0x50) _ _ (ne_eqb command 0x50 a) ∙ cond-false (eqb command 0x4D) _ _ (ne_eqb command 0x4D b))
-
--- an outline that is read is one of a warning
 present_right : (b : Bool) → right_security (cond b None (Some 50)) ≡ true
 present_right true = refl
 present_right false = refl
 
-primary_right : (p : Place) (o : (Warning ℕ)) (q : Place) → primary_outline p ≡ Ok (o, q) → is_warning o ≡ true
+pub primary_right : (p : Place) (o : (Warning ℕ)) (q : Place) → primary_outline p ≡ Ok (o, q) → is_warning o ≡ true
 unfolding primary_outline
 primary_right p o q e =
     then_elim (pair_operands p) _ o q e (λ pair p₁ e₁ k₁.
@@ -53,7 +40,7 @@ message_made_right block pair coding m flag a o eb em ef ea is =
     let few = ap (λ z. leb (total m z) (limit block)) (sym same) ∙ ar.few in
     ap is_warning (sym is) ∙ and_from _ _ eb (and_from _ _ allowed few)
 
-message_right : (p : Place) (o : (Warning ℕ)) (q : Place) → message_outline p ≡ Ok (o, q) → is_warning o ≡ true
+pub message_right : (p : Place) (o : (Warning ℕ)) (q : Place) → message_outline p ≡ Ok (o, q) → is_warning o ≡ true
 unfolding message_outline
 message_right p o q e =
     then_elim (octet carries_message p) _ o q e (λ block p₁ e₁ k₁.
@@ -76,10 +63,6 @@ head_right p o q e =
     (one_of_two (eqb command 0x50) (eqb command 0x4D) (primary_outline r) (message_outline r) (Unknown p.at) (o, q) k))
 
 -- the same, as the code reads it
-pub primary_gives : (r : Result (Warning ℕ) TapeFault) (p q : Place) → gave r q ≡ primary_outline p → IfOk r (λ o. is_warning o ≡ true)
-primary_gives (Ok o) p q e = primary_right p o q (sym e)
-primary_gives (Err f) p q e = tt
-
-pub message_gives : (r : Result (Warning ℕ) TapeFault) (p q : Place) → gave r q ≡ message_outline p → IfOk r (λ o. is_warning o ≡ true)
-message_gives (Ok o) p q e = message_right p o q (sym e)
-message_gives (Err f) p q e = tt
+pub gives_right : (outlined : Place → Read (Warning ℕ)) → ((p : Place) (o : (Warning ℕ)) (q : Place) → outlined p ≡ Ok (o, q) → is_warning o ≡ true) → (r : Result (Warning ℕ) TapeFault) (p q : Place) → gave r q ≡ outlined p → IfOk r (λ o. is_warning o ≡ true)
+gives_right outlined right (Ok o) p q e = right p o q (sym e)
+gives_right outlined right (Err f) p q e = tt

@@ -1,6 +1,7 @@
 -- What a head, a body and a whole warning give, by what their parts gave, and the other way round.
-use Rattle.std.proofs.Common.{◌≡◌, ℕ, List, ◌++◌, length, take, drop, Some, None, Ok, Err, Option, Result, unwrap_or, sym, refl, ap, ◌∙◌, subst, arith}
-use Rattle.std.proofs.lemmas.List.{nil_from_length}
+use Rattle.std.proofs.Common.{◌≡◌, ℕ, ◌+◌, List, ◌++◌, length, take, drop, Some, None, Ok, Err, Option, Result, unwrap_or, sym, refl, ap, ◌∙◌, subst, arith}
+use Rattle.std.proofs.lemmas.List.{nil_from_length, append-nil, drop_all}
+use Rattle.octets.specs.Octets.{written}
 use Rattle.std.specs.Option.{option_map}
 use Rattle.warning.specs.declared.Pair.{Pair}
 use Rattle.warning.specs.declared.Warning.{Warning}
@@ -13,7 +14,7 @@ use Rattle.tape.specs.declared.fault.ReadError.TheVariants.{Fault, Memory}
 use Rattle.tape.specs.Cursors.{Agrees}
 use Rattle.tape.specs.Heads.{head, body, Passed}
 use Rattle.tape.specs.Reading.{Place, Read, operand, all_zero, part, entry}
-use Rattle.tape.proofs.Takes.{then_elim, then_is, ok_parts}
+use Rattle.tape.proofs.Takes.{then_elim, then_is}
 use Rattle.tape.proofs.Splits.{then_err}
 use Rattle.tape.proofs.Entries.{part_ok}
 use Rattle.tape.proofs.Outlines.{head_right}
@@ -71,21 +72,14 @@ area_octets : (area : Option ℕ) (ys : List ℕ) → length ys ≡ unwrap_or ar
 area_octets None ys l = sym (nil_from_length ys l)
 area_octets (Some n) ys l = refl
 
-pub primary_of : (pair : Pair) (t : ℕ) (security : Option ℕ) (p : Place) (w : Notice) (q : Place) → body (Primary pair t security) p ≡ Ok (w, q) → (xs : List ℕ) × (security_read security p ≡ Ok (xs, q)) × (take (unwrap_or security 0) xs ≡ octets w)
-unfolding body
-primary_of pair t security p w q e =
-    then_elim (security_read security p) _ w q e (λ xs r e₁ k.
-    let is = ok_parts (Primary pair t (option_map (λ n. take n xs) security)) w r q k in
-    (xs, e₁ ∙ ap (λ z. Ok (xs, z)) is.1, sym (security_octets_taken security xs) ∙ ap octets is.0))
+-- what is handed on, by what the sink makes of it
+pub passed_so : {X : Type 0} (octets_in : X → List ℕ) (r : Read X) (taken more : List ℕ → Type 0) (res : Result (Unit {0}) TapeFault) (q : Place) → ((x : X) → r ≡ Ok (x, q) → taken (octets_in x) → more (octets_in x)) → Passed octets_in r taken res q → Passed octets_in r more res q
+passed_so octets_in r taken more (Ok u) q step s = (s.0, s.1, step s.0 s.1 s.2)
+passed_so octets_in r taken more (Err f) q step s = s
 
-pub message_of : (block : ℕ) (pair : Pair) (coding m : ℕ) (area : Option ℕ) (p : Place) (w : Notice) (q : Place) → body (Message block pair coding m area) p ≡ Ok (w, q) → (xs : List ℕ) × (ys : List ℕ) × (r : Place) × (part m p ≡ Ok (xs, r)) × (part (unwrap_or area 0) r ≡ Ok (ys, q)) × (xs ++ ys ≡ octets w)
-unfolding body
-message_of block pair coding m area p w q e =
-    then_elim (part m p) _ w q e (λ xs r e₁ k₁.
-    then_elim (part (unwrap_or area 0) r) _ w q k₁ (λ ys s e₂ k₂.
-    let is = ok_parts (Message block pair coding xs (option_map (λ n. ys) area)) w s q k₂ in
-    let same = area_octets area ys (part_ok (unwrap_or area 0) r ys s e₂).0 in
-    (xs, ys, r, e₁, e₂ ∙ ap (λ z. Ok (ys, z)) is.1, ap (λ z. xs ++ z) (sym same) ∙ ap octets is.0)))
+-- a memory that is filled from its start
+pub written_whole : (xs memory : List ℕ) → length xs ≡ length memory → written 0 xs memory ≡ xs
+written_whole xs memory h = ap (λ z. xs ++ z) (drop_all (0 + length xs) memory (omega arith)) ∙ append-nil xs
 
 -- a body whose octets are handed on
 module _ (o : (Warning ℕ)) (p : Place) (taken : List ℕ → Type 0) where

@@ -1,14 +1,13 @@
 -- What each operand gives, by the octets that are there.
-use Rattle.std.proofs.Common.{◌≡◌, ℕ, ◌+◌, ◌-◌, ◌*◌, ◌^◌, ◌<◌, ◌≤◌, min, Bool, true, false, cond, ◌&&◌, eqb, ltb, leb, List, [], ◌∷◌, length, get_or, take, drop, Some, None, Ok, Err, Result, sym, refl, ap, ◌∙◌, ⊎_elim, arith}
-use Rattle.std.proofs.lemmas.List.{take_all, take_rest, drop_all, get_or-take, length-take, length-drop, get_or_past, at_drop_more}
-use Rattle.std.proofs.lemmas.Slice.{between_is}
-use Rattle.std.proofs.lemmas.Bool.{le-ltb, lt-ltb, le-leb, lt-leb, eq-eqb, ne_eqb, cases_lt}
+use Rattle.std.proofs.Common.{◌≡◌, ℕ, ◌+◌, ◌-◌, ◌*◌, ◌<◌, ◌≤◌, Bool, true, false, cond, ◌&&◌, eqb, ltb, leb, List, [], ◌∷◌, length, get_or, take, drop, Some, Ok, Err, sym, refl, ap, ◌∙◌, arith}
+use Rattle.std.proofs.lemmas.List.{take_all, take_rest, drop_all, get_or-take, length-take, get_or_past}
+use Rattle.std.proofs.lemmas.Bool.{and_from, le-ltb, lt-ltb, le-leb, lt-leb, ne_eqb}
 use Rattle.std.specs.List.{list_all}
 use Rattle.octets.specs.Octets.{two_at}
 use Rattle.tape.specs.declared.fault.TapeFault.{TapeFault}
 use Rattle.tape.specs.declared.fault.TapeFault.TheVariants.{Unknown, Ended}
-use Rattle.tape.specs.Reading.{Place, place, Read, then, operand, first_is, octet, of_number, number, number_to, all_zero, security_operand, primary_operands, message_operands, by_command, entry}
-use Rattle.tape.proofs.Takes.{then_is}
+use Rattle.tape.specs.Reading.{Place, place, Read, then, operand, first_is, octet, of_number, number, number_to, all_zero, security_operand}
+use Rattle.tape.proofs.Takes.{then_is, limited}
 
 pub operand_wrong : (w : ℕ) (begins : List ℕ → Bool) (at : ℕ) (t : List ℕ) → begins (take w t) ≡ false → operand w begins (place at t) ≡ Err (Unknown at)
 unfolding operand
@@ -70,10 +69,6 @@ tested_no test p q x e h = sym (octet-tested test p ∙ then_is _ (tested test p
 pub tested_yes : (test : ℕ → Bool) (p q : Place) (x : ℕ) → Ok (x, q) ≡ octet (λ c. true) p → test x ≡ true → Ok (x, q) ≡ octet test p
 tested_yes test p q x e h = sym (octet-tested test p ∙ then_is _ (tested test p.at) x q (sym e) ∙ rw h)
 
--- the input's end stays where it is
-pub within_rest : (at n : ℕ) (t : List ℕ) → at + length t < 2 ^ 64 → n ≤ length t → at + n + length (take (length t - n) (drop n t)) < 2 ^ 64
-within_rest at n t h k = let d = length-drop n t in rw (take_rest t n) (omega arith)
-
 -- a number of which an octet is missing, and a whole one as a slice's pattern finds it
 missing_low : (t : List ℕ) → length t < 2 → get_or t 1 0 ≡ 0
 missing_low t h = get_or_past t 1 0 (omega arith)
@@ -97,12 +92,6 @@ number-first at v t h k e =
     ∙ ap (λ z. Ok (z, place (at + 2) (drop 2 t))) (value_taken t ∙ sym e)
     ∙ ap (λ z. Ok (v, place (at + 2) z)) (sym (take_rest t 2))
 
-abbrev limited : ℕ → List ℕ → Bool
-limited most xs = of_number xs && leb (two_at xs 0) most
-
-both_true : (a b : Bool) → a ≡ true → b ≡ true → (a && b) ≡ true
-both_true a b e f = rw (e, f)
-
 second_false : (a b : Bool) → a ≡ true → b ≡ false → (a && b) ≡ false
 second_false a b e f = rw (e, f)
 
@@ -114,7 +103,7 @@ unfolding number_to
 number_to_ended most at t h k =
     let low : of_number (take 2 t) ≡ true = low_right t (rw (missing_low t h) (omega arith)) in
     let within : leb (two_at (take 2 t) 0) most ≡ true = rw (cut_value t h) (le-leb _ _ k) in
-    then_err _ _ _ (operand_short 2 (limited most) at t (both_true _ _ low within) h)
+    then_err _ _ _ (operand_short 2 (limited most) at t (and_from _ _ low within) h)
 
 pub number_to_cut : (most at : ℕ) (t : List ℕ) → length t < 2 → most < get_or t 0 0 * 256 → number_to most (place at t) ≡ Err (Unknown at)
 unfolding number_to
@@ -133,7 +122,7 @@ pub number_to-first : (most at v : ℕ) (t : List ℕ) → 2 ≤ length t → ge
 unfolding number_to
 number_to-first most at v t h l e k =
     let within : leb (two_at (take 2 t) 0) most ≡ true = rw (value_taken t) (le-leb _ _ (omega arith)) in
-    then_is _ _ (take 2 t) (place (at + 2) (drop 2 t)) (operand_long 2 (limited most) at t (both_true _ _ (low_right t l) within) h)
+    then_is _ _ (take 2 t) (place (at + 2) (drop 2 t)) (operand_long 2 (limited most) at t (and_from _ _ (low_right t l) within) h)
     ∙ ap (λ z. Ok (z, place (at + 2) (drop 2 t))) (value_taken t ∙ sym e)
     ∙ ap (λ z. Ok (v, place (at + 2) z)) (sym (take_rest t 2))
 
@@ -155,17 +144,6 @@ module _ (w count at : ℕ) (t : List ℕ) where
 
   pub padded_long : list_all (λ x. eqb x 0) (drop count (take w t)) ≡ true → w ≤ length t → operand w (zeros_past count) (place at t) ≡ Ok (take w t, place (at + w) (drop w t))
   padded_long e l = operand_long w (zeros_past count) at t (all_zero_is (drop count (take w t)) ∙ e) l
-
--- a chain of operands, one after another, as the code meets them
-pub from_err : {X Y : Type 0} (r : Read X) (f : X → Place → Read Y) (e : TapeFault) → Err e ≡ r → Err e ≡ then r f
-from_err r f e h = sym (then_err r f e (sym h))
-
-pub from_ok : {X Y : Type 0} (r : Read X) (f : X → Place → Read Y) (x : X) (p : Place) (y : Read Y) → Ok (x, p) ≡ r → y ≡ f x p → y ≡ then r f
-from_ok r f x p y h k = k ∙ sym (then_is r f x p (sym h))
-
--- a part that begins at the start
-pub from_start : (n : ℕ) → n - 0 ≡ n
-from_start n = omega arith
 
 operand_same : (w : ℕ) (f g : List ℕ → Bool) (p : Place) → f (take w p.rest) ≡ g (take w p.rest) → operand w f p ≡ operand w g p
 unfolding operand

@@ -120,7 +120,7 @@ number_at at x rest =
     then_is _ _ (two x) (place (at + 2) rest) (operand_at 2 of_number at (two x) rest refl (low_octet x))
     ∙ ap (λ n. Ok (n, place (at + 2) rest)) (value_of_two x)
 
-abbrev limited : ℕ → List ℕ → Bool
+abbrev pub limited : ℕ → List ℕ → Bool
 limited most xs = of_number xs && leb (two_at xs 0) most
 
 pub number_to_ok : (most : ℕ) (p : Place) (x : ℕ) (q : Place) → number_to most p ≡ Ok (x, q) → (x ≤ most) × Took (two x) p q

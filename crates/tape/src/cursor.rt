@@ -164,5 +164,9 @@ fn least_number(octets: &[u8]) -> usize
 fn is_padded(octets: &[u8], width: usize, count: usize) -> bool
     ensures { result ≡ list_all (λ x. nat_eq x 0) (drop count (take width octets.now)) }
 {
-    octets.iter().take(width).skip(count).all(|octet| *octet == 0)
+    octets
+        .iter()
+        .take(width)
+        .skip(count)
+        .all(|octet| *octet == 0)
 }

@@ -1,9 +1,7 @@
 use Rattle.std.proofs.Common.{◌≡◌, ℕ, List, drop, Ok, Err, Result, sym, ap, ◌∙◌, rules}
 use Rattle.std.proofs.lemmas.Result.{err_from_is_err_and}
 use Rattle.warning.specs.declared.Warning.{Warning}
-use Rattle.warning.specs.Contents.{octets}
-use Rattle.warning.specs.Notice.{Notice, outline}
-use Rattle.octets.specs.Octets.{written}
+use Rattle.warning.specs.Notice.{outline}
 use Rattle.tape.specs.declared.fault.TapeFault.{TapeFault}
 use Rattle.tape.specs.Heads.{answered, copied}
 use Rattle.tape.specs.Reading.{Place, place, entry}

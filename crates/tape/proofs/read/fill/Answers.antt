@@ -1,5 +1,5 @@
 use Rattle.std.proofs.Common.{◌≡◌, length, sym, ◌∙◌, rules}
-use Rattle.tape.proofs.Copies.{passed_so, written_whole}
+use Rattle.tape.proofs.Readings.{passed_so, written_whole}
 use Rattle.tape.proofs.Entries.{part_ok}
 use Rattle.tape.proofs.read.fill.Goals as goal
 

@@ -1,6 +1,6 @@
-use Rattle.std.proofs.Common.{◌+◌, ◌-◌, ◌*◌, length, refl, sym, subst, arith}
+use Rattle.std.proofs.Common.{◌+◌, ◌-◌, ◌*◌, length, sym, subst, arith}
 use Rattle.std.proofs.lemmas.Result.{err_from_is_err_and}
-use Rattle.tape.proofs.Copies.{handing_start, handing_more, handing_err, handing_end, data_long}
+use Rattle.tape.proofs.Gathers.{handing_start, handing_more, handing_err, handing_end, data_long}
 use Rattle.tape.proofs.read.part.Goals as goal
 
 pub loop-command-init : goal.loop-command-init

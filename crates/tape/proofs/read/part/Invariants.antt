@@ -1,5 +1,5 @@
 use Rattle.std.proofs.Common.{◌-◌, ◌*◌}
-use Rattle.tape.proofs.Copies.{Handing}
+use Rattle.tape.proofs.Gathers.{Handing}
 use Rattle.tape.proofs.read.part.Given as goal
 
 abbrev pub invariant-loop-command : goal.invariant-loop-command

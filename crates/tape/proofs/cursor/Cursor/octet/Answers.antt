@@ -1,4 +1,4 @@
-use Rattle.std.proofs.Common.{Err, sym, ap, ◌∙◌, arith}
+use Rattle.std.proofs.Common.{sym, arith}
 use Rattle.std.proofs.lemmas.Bool.{ltb-false, ltb-true}
 use Rattle.tape.proofs.Splits.{octet_none, octet-first}
 use Rattle.tape.proofs.cursor.Cursor.octet.Goals as goal

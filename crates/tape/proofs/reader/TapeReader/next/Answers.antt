@@ -1,9 +1,7 @@
-use Rattle.std.proofs.Common.{[], ◌∷◌, map, vec_items, refl, arith}
-use Rattle.std.proofs.lemmas.List.{length-drop}
+use Rattle.std.proofs.Common.{[], ◌∷◌, map, vec_items, refl}
 use Rattle.std.proofs.lemmas.Slice.{pushed}
-use Rattle.std.proofs.lemmas.Result.{err_from_is_err_and}
 use Rattle.warning.specs.Meaning.{owned}
-use Rattle.tape.proofs.Steps.{Reached, read_less, step_read, step_reached, next_err, owned-more}
+use Rattle.tape.proofs.Steps.{Reached, read_less, step_read, step_reached, owned-more}
 use Rattle.tape.proofs.reader.TapeReader.next.Goals as goal
 
 pub invariant_of-self-2 : goal.invariant_of-self-2
