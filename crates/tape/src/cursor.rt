@@ -33,11 +33,8 @@ impl<'a> Cursor<'a> {
     pub fn new(tape: &'a [u8], at: usize) -> Cursor<'a>
         ensures { result ≡ place at (drop at tape.now) }
     {
-        let start = at.min(tape.len());
-        Cursor {
-            at,
-            rest: &tape[start..],
-        }
+        let rest = tape.get(at..).unwrap_or(&[]);
+        Cursor { at, rest }
     }
 
     // The offset at which it stands.

@@ -7,7 +7,7 @@ ghost use Rattle.warning.specs.Meaning.{kept, owned};
 ghost use Rattle.warning.specs.Numbers.{most_octets};
 ghost use Rattle.warning.specs.Rules.{is_warning};
 ghost use Rattle.tape.specs.Cursors.{gave, Agrees, flag_number};
-ghost use Rattle.tape.specs.Heads.{primary_outline, lengths_outline, message_outline, head, body, Passed};
+ghost use Rattle.tape.specs.Heads.{primary_outline, message_outline, head, body, Passed};
 ghost use Rattle.tape.specs.Reading.{part, most_flag, most_area, entry};
 
 use crate::cursor::Cursor;
@@ -16,7 +16,7 @@ use crate::numbers::*;
 use crate::sink::{Copied, Sink};
 use std::alloc::{AllocError, Global};
 use warning::numbers::*;
-use warning::{Outline, Pair, WarningBuf, octet_limit};
+use warning::{Outline, WarningBuf, octet_limit};
 
 // Whether a message of a block may have an area.
 fn may_have_area(block: u8) -> bool
@@ -51,15 +51,14 @@ fn primary_outline(cursor: &mut Cursor<'_>) -> Result<Outline, TapeFault>
     })
 }
 
-// The lengths of a message.
-fn lengths_outline(
-    cursor: &mut Cursor<'_>,
-    block: u8,
-    pair: Pair,
-    coding: u8,
-) -> Result<Outline, TapeFault>
-    ensures { gave result cursor.new ≡ lengths_outline block pair coding cursor.old }
+// The operands of a message, up to its data.
+#[tactic(auto, unfolding(crate::specs::Heads::message_outline))]
+fn message_outline(cursor: &mut Cursor<'_>) -> Result<Outline, TapeFault>
+    ensures { gave result cursor.new ≡ message_outline cursor.old }
 {
+    let block = cursor.block()?;
+    let pair = cursor.pair()?;
+    let coding = cursor.octet()?;
     let message = cursor.number_to(octet_limit(block))?;
     let has_area = cursor.flag(may_have_area(block))?;
     let area = cursor.number_to(most_area(block, message, has_area))?;
@@ -70,17 +69,6 @@ fn lengths_outline(
         message,
         area: has_area.then_some(area),
     })
-}
-
-// The operands of a message, up to its data.
-#[tactic(auto, unfolding(crate::specs::Heads::message_outline))]
-fn message_outline(cursor: &mut Cursor<'_>) -> Result<Outline, TapeFault>
-    ensures { gave result cursor.new ≡ message_outline cursor.old }
-{
-    let block = cursor.block()?;
-    let pair = cursor.pair()?;
-    let coding = cursor.octet()?;
-    lengths_outline(cursor, block, pair, coding)
 }
 
 // The head of a warning: its command octet tells which operands follow.
