@@ -5,6 +5,8 @@ use Rattle.warning.specs.declared.Warning.{Warning}
 use Rattle.warning.specs.declared.Warning.TheVariants.{Primary, Message}
 use Rattle.tape.specs.declared.fault.TapeFault.{TapeFault}
 use Rattle.tape.specs.Refusals.{of_tape, offset_of}
+use Rattle.listing.specs.declared.Line.{Line}
+use Rattle.listing.specs.declared.Line.TheVariants.{Entry, End, Refused}
 
 -- an area's length, or a dash where there is none
 abbrev pub area_text : Option ℕ → List ℕ
@@ -50,3 +52,9 @@ numbered_text number offset = codes "refused " ++ (decimal number ++ (codes " " 
 
 abbrev pub refused_text : TapeFault → List ℕ
 refused_text fault = numbered_text (of_tape fault).number (offset_of fault)
+
+-- a line of a listing
+abbrev pub line_text : Line → List ℕ
+line_text (Entry offset outline) = entry_text offset outline
+line_text (End warnings octets same) = end_text warnings octets same
+line_text (Refused fault) = refused_text fault

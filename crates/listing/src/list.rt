@@ -4,7 +4,7 @@ ghost use Rattle.tape.specs.Readers.{whole_tape, stands_at, read_so_far};
 ghost use Rattle.tape.specs.Reading.{read_tape};
 ghost use Rattle.listing.specs.Listed.{Listed, Left};
 
-use crate::{end_line, entry_line, refused_line};
+use crate::Line;
 use anyhow::anyhow;
 use std::alloc::Global;
 use tape::fault::{ReadError, TapeFault};
@@ -31,7 +31,8 @@ fn list_entries(
         match reader.next(heap) {
             Ok(Some(offset)) => {
                 if let Some(warning) = reader.warnings().last() {
-                    rt.println(entry_line(heap, offset, warning.as_warning().outline())?)?;
+                    let outline = warning.as_warning().outline();
+                    rt.println(Line::Entry { offset, outline })?;
                 }
             }
             Ok(None) => return Ok(None),
@@ -48,7 +49,7 @@ pub fn list(rt: &impl Print, heap: Global, tape: &[u8]) -> anyhow::Result<Ending
 {
     let mut reader = TapeReader::new(heap, tape);
     if let Some(fault) = list_entries(rt, heap, &mut reader)? {
-        rt.println(refused_line(heap, fault)?)?;
+        rt.println(Line::Refused(fault))?;
         return Ok(Ending::Refused(fault));
     }
     let Ok(again) = reader.write_back(heap) else {
@@ -56,6 +57,11 @@ pub fn list(rt: &impl Print, heap: Global, tape: &[u8]) -> anyhow::Result<Ending
     };
     let same = again.as_slice() == tape;
     let warnings = reader.warnings().len();
-    rt.println(end_line(heap, warnings, tape.len(), same)?)?;
+    let octets = tape.len();
+    rt.println(Line::End {
+        warnings,
+        octets,
+        same,
+    })?;
     Ok(Ending::Whole { same })
 }

@@ -1,5 +1,5 @@
 -- What a warning costs, and how long it is on tape.
-use Rattle.std.proofs.Common.{◌≡◌, ℕ, ◌+◌, ◌-◌, ◌≤◌, Bool, true, false, cond, not, ◌&&◌, ltb, leb, List, length, take, replicate, is_some, Some, None, Ok, Err, Option, Result, unwrap_or, sym, refl, ap, ◌∙◌, arith}
+use Rattle.std.proofs.Common.{◌≡◌, ℕ, ◌+◌, ◌-◌, ◌<◌, ◌≤◌, Bool, true, false, cond, not, ◌&&◌, ltb, leb, List, length, take, replicate, is_some, Some, None, Ok, Err, Option, Result, unwrap_or, sym, refl, ap, ◌∙◌, arith}
 use Rattle.std.proofs.lemmas.List.{length-append, length-replicate, take_at}
 use Rattle.std.proofs.lemmas.Bool.{le-ltb, eqb-true, and_parts, leb-true, le-leb}
 use Rattle.std.specs.Option.{option_map}
@@ -17,13 +17,16 @@ use Rattle.tape.specs.Format.{encode, pieces, octets_of, cost, part_cost}
 use Rattle.tape.specs.Writing.{cost_by, costed, write_by, write_outcome}
 use Rattle.tape.proofs.Pieces.{length-pieces}
 
-cost_by-cost : (j : Result (Unit {0}) WarningFault) (n m : ℕ) → Ok m ≡ cost_by j n → m ≡ n
-cost_by-cost (Ok x) n m e = cc
-cost_by-cost (Err f) n m e = let z : ◌≡◌ {A = ℕ} 0 1 = cc in absurd (omega arith)
+cost_by_parts : (j : Result (Unit {0}) WarningFault) (n m : ℕ) → Ok m ≡ cost_by j n → (j ≡ Ok tt) × (m ≡ n)
+cost_by_parts (Ok tt) n m e = (refl, cc)
+cost_by_parts (Err f) n m e = let z : ◌≡◌ {A = ℕ} 0 1 = cc in absurd (omega arith)
 
--- the cost that is answered is the cost
+-- the cost that is answered is the cost of a warning
 pub costed-cost : (o : (Warning ℕ)) (n : ℕ) → Ok n ≡ costed o → n ≡ cost o
-costed-cost o n e = cost_by-cost (judged o) (cost o) n e
+costed-cost o n e = (cost_by_parts (judged o) (cost o) n e).1
+
+pub costed-right : (o : Warning ℕ) (n : ℕ) → Ok n ≡ costed o → is_warning o ≡ true
+costed-right o n e = judged_right o (cost_by_parts (judged o) (cost o) n e).0
 
 -- what is answered where the warning fits
 pub write_fits : (r : Result ℕ WarningFault) (n free at next : ℕ) → Ok n ≡ r → n ≤ free → next ≡ at + n → Ok next ≡ write_by r free at
@@ -46,6 +49,18 @@ length-encode (Message block pair coding octets area) h =
     let d = ap part_cost (length-octets_of area) in
     omega arith
 
+some_cost : (o : Warning ℕ) → 0 < cost o
+some_cost (Primary pair warning-type security) = omega arith
+some_cost (Message block pair coding octets area) = omega arith
+
+-- a warning whose cost is free has room
+pub room_for : (w : Notice) (n at : ℕ) (memory : List ℕ) → Ok n ≡ costed (outline w) → n ≤ length memory - at → at + length (encode w) ≤ length memory
+room_for w n at memory e h =
+    let is = costed-cost (outline w) n e in
+    let some = some_cost (outline w) in
+    let long = length-encode w (costed-right (outline w) n e) in
+    omega arith
+
 in_room : (b : Bool) (end n : ℕ) (f : WriteFault) → Ok end ≡ cond b (Err f) (Ok n) → end ≡ n
 in_room true end n f k = let z : ◌≡◌ {A = ℕ} 0 1 = cc in absurd (omega arith)
 in_room false end n f k = cc
@@ -55,12 +70,12 @@ cost_by_ok (Ok tt) n free at end e = (refl, in_room (ltb free n) end (at + n) (F
 cost_by_ok (Err f) n free at end e = let z : ◌≡◌ {A = ℕ} 0 1 = cc in absurd (omega arith)
 
 -- a warning that was written at the start of memory is what stands there
-pub written_whole : (w : Notice) (m m₁ : List ℕ) (free end : ℕ) → Ok end ≡ write_outcome (outline w) free 0 → m₁ ≡ written 0 (encode w) m → (judged (outline w) ≡ Ok tt) × (take (end - 0) m₁ ≡ encode w)
+pub written_whole : (w : Notice) (m m₁ : List ℕ) (free end : ℕ) → Ok end ≡ write_outcome (outline w) free 0 → m₁ ≡ written 0 (encode w) m → (judged (outline w) ≡ Ok tt) × (take end m₁ ≡ encode w)
 written_whole w m m₁ free end e k =
     let ok = cost_by_ok (judged (outline w)) (cost (outline w)) free 0 end e in
     let long = length-encode w (judged_right (outline w) ok.0) in
-    let size : length (encode w) ≡ end - 0 = omega (arith, ok.1) in
-    (ok.0, ap (take (end - 0)) k ∙ take_at (encode w) _ (end - 0) size)
+    let size : length (encode w) ≡ end = omega (arith, ok.1) in
+    (ok.0, ap (take end) k ∙ take_at (encode w) _ end size)
 
 -- the longest entry: two parts take at most one data command more than one part of all octets
 most_pieces : (m a : ℕ) → m + a ≤ 16384 → 12 + part_cost m + part_cost a ≤ 17454

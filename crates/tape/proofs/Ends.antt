@@ -2,8 +2,8 @@
 use Rattle.std.proofs.Common.{◌≡◌, ℕ, ◌+◌, ◌<◌, true, false, List, ◌++◌, length, take, drop, is_some, Some, None, Ok, Err, Option, sym, ap, ◌∙◌, arith}
 use Rattle.std.proofs.lemmas.List.{length-drop, length-take-le, take_all, take-append-drop}
 use Rattle.tape.specs.declared.fault.TapeFault.{TapeFault}
-use Rattle.tape.specs.declared.fault.ReadError.{ReadError}
-use Rattle.tape.specs.declared.fault.ReadError.TheVariants.{Fault, Memory}
+use Rattle.tape.specs.declared.fault.Failure.{Failure}
+use Rattle.tape.specs.declared.fault.Failure.TheVariants.{Fault, Memory}
 use Rattle.warning.specs.Notice.{Notice}
 use Rattle.tape.specs.Format.{encode_all}
 use Rattle.tape.specs.Reading.{Place, place, entry, followed, read_tape}
@@ -51,7 +51,7 @@ next_none p q ws vs None h n = ap (λ z. length z.rest) n.1 ∙ n.0
 next_none p q ws vs (Some o) h n = let z : ◌≡◌ {A = ℕ} 0 1 = cc in absurd (omega arith)
 
 -- an error is the whole tape's
-pub ends_err : (t : List ℕ) (at : ℕ) (ws vs : List Notice) (q : Place) (e : ReadError) → Reached t at ws → Next (place at (drop at t)) ws q vs (Err e) → ReadAs (read_tape t) (Err e)
+pub ends_err : (t : List ℕ) (at : ℕ) (ws vs : List Notice) (q : Place) (e : Failure TapeFault) → Reached t at ws → Next (place at (drop at t)) ws q vs (Err e) → ReadAs (read_tape t) (Err e)
 ends_err t at ws vs q (Fault f) r n = ends_refused t at ws f r n.0 n.1
 ends_err t at ws vs q Memory r n = tt
 

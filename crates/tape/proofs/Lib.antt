@@ -1,3 +1,4 @@
+pub mod Puts
 pub mod Pieces
 pub mod Costs
 pub mod Takes

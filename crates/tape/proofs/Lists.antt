@@ -9,8 +9,8 @@ use Rattle.warning.specs.Notice.{Notice, outline}
 use Rattle.warning.specs.Meaning.{owned}
 use Rattle.warning.specs.Rules.{is_warning, judged}
 use Rattle.warning.proofs.Judging.{judged_right, right_judged}
-use Rattle.tape.specs.declared.fault.WriteError.{WriteError}
-use Rattle.tape.specs.declared.fault.WriteError.TheVariants.{Fault, Memory}
+use Rattle.tape.specs.declared.fault.Failure.{Failure}
+use Rattle.tape.specs.declared.fault.Failure.TheVariants.{Fault, Memory}
 use Rattle.tape.specs.Format.{encode, encode_all}
 use Rattle.tape.specs.Promises.{all_warnings, written, written_by, Appended, WrittenAs}
 
@@ -61,7 +61,7 @@ item_split xs i x w h e k =
     ∙ ap (λ z. map owned (take i xs) ++ (z ∷ map owned (drop (i + 1) xs))) (sym k)
 
 -- an error at a warning is the list's
-pub append_err : (ws : List Notice) (w : Notice) (vs all : List Notice) (xs ys : List ℕ) (e : WriteError) → all ≡ ws ++ (w ∷ vs) → written ws ≡ Ok xs → Appended xs w ys (Err e) → WrittenAs all (Err e)
+pub append_err : (ws : List Notice) (w : Notice) (vs all : List Notice) (xs ys : List ℕ) (e : Failure WarningFault) → all ≡ ws ++ (w ∷ vs) → written ws ≡ Ok xs → Appended xs w ys (Err e) → WrittenAs all (Err e)
 append_err ws w vs all xs ys (Fault f) k h a = ap written k ∙ written_err ws w vs xs f h a.0
 append_err ws w vs all xs ys Memory k h a = tt
 
@@ -73,11 +73,11 @@ all_written (w ∷ ws) h =
     ap (λ j. written_by j (encode w) (written ws)) (right_judged (outline w) both.0) ∙ ap (written_by (Ok tt) (encode w)) (all_written ws both.1)
 
 -- what a reader has read is written back
-pub back_same : (ws : List Notice) (xs : List ℕ) (r : Result (Vec ℕ Global) WriteError) → encode_all ws ≡ xs → WrittenAs ws r → IfOk r (λ v. vec_items v ≡ xs)
+pub back_same : (ws : List Notice) (xs : List ℕ) (r : Result (Vec ℕ Global) (Failure WarningFault)) → encode_all ws ≡ xs → WrittenAs ws r → IfOk r (λ v. vec_items v ≡ xs)
 back_same ws xs (Ok v) e a = sym (written_all ws (vec_items v) a).1 ∙ e
 back_same ws xs (Err f) e a = tt
 
-pub back_wanting : (ws : List Notice) (r : Result (Vec ℕ Global) WriteError) → all_warnings ws ≡ true → WrittenAs ws r → IfErr r (λ e. e ≡ Memory)
+pub back_wanting : (ws : List Notice) (r : Result (Vec ℕ Global) (Failure WarningFault)) → all_warnings ws ≡ true → WrittenAs ws r → IfErr r (λ e. e ≡ Memory)
 back_wanting ws (Ok v) h a = tt
 back_wanting ws (Err (Fault f)) h a =
     let both : ◌≡◌ {A = Result (List ℕ) WarningFault} (Ok (encode_all ws)) (Err f) = sym (all_written ws h) ∙ a in

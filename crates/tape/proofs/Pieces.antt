@@ -1,8 +1,6 @@
 -- The data commands of a part, one at a time.
-use Rattle.std.proofs.Common.{◌≡◌, ℕ, zero, suc, ◌+◌, ◌-◌, ◌*◌, ◌<◌, ◌≤◌, List, [], ◌++◌, length, take, drop, replicate, refl, ◌∙◌, arith}
-use Rattle.std.proofs.lemmas.List.{length-drop, length-append, length-replicate, length-take, length-take-le, take_all, drop_all, append-nil, drop-replicate, take-replicate, take_rest}
-use Rattle.octets.specs.Octets.{written}
-use Rattle.octets.proofs.Writes.{written-written}
+use Rattle.std.proofs.Common.{◌≡◌, ℕ, zero, suc, ◌-◌, ◌*◌, ◌<◌, ◌≤◌, List, [], ◌++◌, length, take, drop, replicate, refl, ◌∙◌, arith}
+use Rattle.std.proofs.lemmas.List.{length-drop, length-append, length-replicate, length-take, take_all, drop_all, append-nil, drop-replicate, take-replicate}
 use Rattle.tape.specs.Format.{piece, pieces, pieces_by, commands_for, part_cost}
 
 pub pieces_none : pieces [] ≡ []
@@ -28,14 +26,6 @@ length-piece xs h = rw (length-append, length-replicate) (omega arith)
 -- zeros past a count
 pub zeros_past : (n : ℕ) → n ≤ 32 → take {A = ℕ} (32 - n) (drop n (replicate 32 0)) ≡ replicate (32 - n) 0
 zeros_past n h = rw drop-replicate (take-replicate (32 - n) (32 - n) 0 (omega arith))
-
--- one turn of the loop that writes them
-pub part-more : (m m₁ left : List ℕ) (next next₁ : ℕ) → 32 < length left → next + 34 ≤ length m → m₁ ≡ written next (piece (take 32 left)) m → next₁ ≡ next + 34 → written next₁ (pieces (take (length left - 32) (drop 32 left))) m₁ ≡ written next (pieces left) m
-part-more m m₁ left next next₁ h k e n =
-    let t = length-take-le 32 left (omega arith) in
-    let l = length-piece (take 32 left) (omega arith) in
-    let w = written-written m (piece (take 32 left)) (pieces (drop 32 left)) next next₁ (omega arith) (omega arith) in
-    rw (take_rest left 32, e, pieces_step left (omega arith)) w
 
 length_by : (n : ℕ) (xs : List ℕ) → length (pieces_by n xs) ≡ n * 34
 length_by zero xs = refl

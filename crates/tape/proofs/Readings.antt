@@ -9,8 +9,8 @@ use Rattle.warning.specs.declared.Warning.TheVariants.{Primary, Message}
 use Rattle.warning.specs.Contents.{octets, part_octets}
 use Rattle.warning.specs.Notice.{Notice, outline}
 use Rattle.tape.specs.declared.fault.TapeFault.{TapeFault}
-use Rattle.tape.specs.declared.fault.ReadError.{ReadError}
-use Rattle.tape.specs.declared.fault.ReadError.TheVariants.{Fault, Memory}
+use Rattle.tape.specs.declared.fault.Failure.{Failure}
+use Rattle.tape.specs.declared.fault.Failure.TheVariants.{Fault, Memory}
 use Rattle.tape.specs.Cursors.{Agrees}
 use Rattle.tape.specs.Heads.{head, body, Passed}
 use Rattle.tape.specs.Reading.{Place, Read, operand, all_zero, part, entry}
@@ -100,12 +100,12 @@ module _ (o : (Warning ℕ)) (p : Place) (taken : List ℕ → Type 0) where
       ap (λ z. body z p) is ∙ area_refused block pair coding m area p xs r f e (ap (λ z. part z r) (sym k) ∙ s)
 
 -- an answer that memory may keep from being given
-pub agrees_same : {X Y : Type 0} (f : X → Y) (r s : Read Y) (x : Result X ReadError) (q : Place) → r ≡ s → Agrees f s x q → Agrees f r x q
+pub agrees_same : {X Y : Type 0} (f : X → Y) (r s : Read Y) (x : Result X (Failure TapeFault)) (q : Place) → r ≡ s → Agrees f s x q → Agrees f r x q
 agrees_same f r s (Ok x) q e h = e ∙ h
 agrees_same f r s (Err (Fault g)) q e h = e ∙ h
 agrees_same f r s (Err Memory) q e h = tt
 
 -- an error that is passed on: a refusal, or want of memory
-pub agrees_err : {X Y V W : Type 0} (f : X → Y) (g : V → W) (r : Read Y) (s : Read W) (e : ReadError) (p q : Place) → ((h : TapeFault) → r ≡ Err h → s ≡ Err h) → Agrees f r (Err e) p → Agrees g s (Err e) q
+pub agrees_err : {X Y V W : Type 0} (f : X → Y) (g : V → W) (r : Read Y) (s : Read W) (e : Failure TapeFault) (p q : Place) → ((h : TapeFault) → r ≡ Err h → s ≡ Err h) → Agrees f r (Err e) p → Agrees g s (Err e) q
 agrees_err f g r s (Fault h) p q k a = k h a
 agrees_err f g r s Memory p q k a = tt

@@ -3,8 +3,9 @@ use Rattle.std.specs.declared.alloc.Global.{Global}
 use Rattle.std.proofs.Common.{Vec, ◌≡◌, ℕ, ◌<◌, ◌≤◌, true, List, [], ◌∷◌, ◌++◌, map, length, take, drop, Ok, Err, sym, refl, ap, ◌∙◌, subst, arith}
 use Rattle.std.proofs.lemmas.List.{append_assoc, length-append, length-take-le, length-drop, take_at, drop_at, take-append-drop, flat_map_more, map_push}
 use Rattle.std.proofs.lemmas.Bool.{and_parts}
-use Rattle.tape.specs.declared.fault.ReadError.{ReadError}
-use Rattle.tape.specs.declared.fault.ReadError.TheVariants.{Fault, Memory}
+use Rattle.tape.specs.declared.fault.Failure.{Failure}
+use Rattle.tape.specs.declared.fault.TapeFault.{TapeFault}
+use Rattle.tape.specs.declared.fault.Failure.TheVariants.{Fault, Memory}
 use Rattle.warning.specs.declared.Warning.{Warning}
 use Rattle.warning.specs.Meaning.{owned}
 use Rattle.warning.specs.Notice.{Notice, outline}
@@ -80,7 +81,7 @@ read_less p w q e =
     omega arith
 
 -- an error leaves the reader where it was
-pub next_err : (t : List ℕ) (at : ℕ) (ws : List Notice) (q : Place) (e : ReadError) → at < length t → Agrees owned (entry (place at (drop at t))) (Err e) q → Next (place at (drop at t)) ws (place at (drop at t)) ws (Err e)
+pub next_err : (t : List ℕ) (at : ℕ) (ws : List Notice) (q : Place) (e : Failure TapeFault) → at < length t → Agrees owned (entry (place at (drop at t))) (Err e) q → Next (place at (drop at t)) ws (place at (drop at t)) ws (Err e)
 next_err t at ws q (Fault f) h a = let d = length-drop at t in (omega arith, a, refl, refl)
 next_err t at ws q Memory h a = (refl, refl)
 

@@ -1,8 +1,8 @@
 -- What the methods of a cursor answer.
 use Rattle.std.specs.Prelude.{◌≡◌, ℕ, ◌<◌, Bool, cond, Ok, Err, Result}
 use Rattle.tape.specs.declared.fault.TapeFault.{TapeFault}
-use Rattle.tape.specs.declared.fault.ReadError.{ReadError}
-use Rattle.tape.specs.declared.fault.ReadError.TheVariants.{Fault, Memory}
+use Rattle.tape.specs.declared.fault.Failure.{Failure}
+use Rattle.tape.specs.declared.fault.Failure.TheVariants.{Fault, Memory}
 use Rattle.tape.specs.Reading.{Place, Read}
 
 -- a value that was read and the place after it, or the refusal, after which nothing is said of the place
@@ -16,7 +16,7 @@ gave_as meaning (Ok x) p = Ok (meaning x, p)
 gave_as meaning (Err f) p = Err f
 
 -- the same where memory may be wanting: then nothing is said
-abbrev pub Agrees : {X Y : Type 0} → (X → Y) → Read Y → Result X ReadError → Place → Type 0
+abbrev pub Agrees : {X Y : Type 0} → (X → Y) → Read Y → Result X (Failure TapeFault) → Place → Type 0
 Agrees meaning r (Ok x) p = r ≡ Ok (meaning x, p)
 Agrees meaning r (Err (Fault f)) p = r ≡ Err f
 Agrees meaning r (Err Memory) p = Unit {0}

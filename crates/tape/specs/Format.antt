@@ -28,9 +28,9 @@ unfoldable pub pieces : List ℕ → List ℕ
 pieces xs = pieces_by (commands_for (length xs)) xs
 
 -- a flag, 0 for what is absent
-abbrev pub flag_of : Option (List ℕ) → ℕ
+abbrev pub flag_of : {X : Type 0} → Option X → ℕ
 flag_of None = 0
-flag_of (Some xs) = 1
+flag_of (Some x) = 1
 
 -- the octets of a part that may be absent
 abbrev pub octets_of : Option (List ℕ) → List ℕ

@@ -11,8 +11,8 @@ use Rattle.warning.specs.Numbers.{security_octets}
 use Rattle.warning.specs.Rules.{carries_message, limit}
 use Rattle.tape.specs.declared.fault.TapeFault.{TapeFault}
 use Rattle.tape.specs.declared.fault.TapeFault.TheVariants.{Unknown}
-use Rattle.tape.specs.declared.fault.ReadError.{ReadError}
-use Rattle.tape.specs.declared.fault.ReadError.TheVariants.{Fault, Memory}
+use Rattle.tape.specs.declared.fault.Failure.{Failure}
+use Rattle.tape.specs.declared.fault.Failure.TheVariants.{Fault, Memory}
 use Rattle.tape.specs.Numbers.{primary_command, message_command}
 use Rattle.tape.specs.Reading.{Place, Read, then, operand, octet, number, number_to, pair_operands, all_zero, present, part, most_flag, most_area, entry}
 
@@ -70,7 +70,7 @@ answered meaning (Ok r) = Ok (meaning r.0, r.1.at)
 answered meaning (Err f) = Err f
 
 -- the same in memory of its own; where that is wanting, nothing is said
-abbrev pub AnsweredAs : {X Y : Type 0} → (X → Y) → Read Y → Result (X × ℕ) ReadError → Type 0
+abbrev pub AnsweredAs : {X Y : Type 0} → (X → Y) → Read Y → Result (X × ℕ) (Failure TapeFault) → Type 0
 AnsweredAs meaning r (Ok x) = answered (λ y. y) r ≡ Ok (meaning x.0, x.1)
 AnsweredAs meaning r (Err (Fault f)) = r ≡ Err f
 AnsweredAs meaning r (Err Memory) = Unit {0}

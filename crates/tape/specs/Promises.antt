@@ -1,8 +1,8 @@
 -- The round trips, for every list of warnings and every string of octets.
 use Rattle.std.specs.Prelude.{◌≡◌, ℕ, ◌≤◌, Bool, true, ◌&&◌, List, [], ◌∷◌, ◌++◌, length, Ok, Err, vec_items, Result, Vec}
 use Rattle.warning.specs.declared.WarningFault.{WarningFault}
-use Rattle.tape.specs.declared.fault.WriteError.{WriteError}
-use Rattle.tape.specs.declared.fault.WriteError.TheVariants.{Fault, Memory}
+use Rattle.tape.specs.declared.fault.Failure.{Failure}
+use Rattle.tape.specs.declared.fault.Failure.TheVariants.{Fault, Memory}
 use Rattle.std.specs.declared.alloc.Global.{Global}
 use Rattle.warning.specs.Notice.{Notice, outline}
 use Rattle.warning.specs.Rules.{is_warning, judged}
@@ -25,13 +25,13 @@ written [] = Ok []
 written (w ∷ ws) = written_by (judged (outline w)) (encode w) (written ws)
 
 -- a warning at the end of a tape; an error leaves the tape as it was
-abbrev pub Appended : List ℕ → Notice → List ℕ → Result (Unit {0}) WriteError → Type 0
+abbrev pub Appended : List ℕ → Notice → List ℕ → Result (Unit {0}) (Failure WarningFault) → Type 0
 Appended before w after (Ok u) = (judged (outline w) ≡ Ok tt) × (after ≡ before ++ encode w)
 Appended before w after (Err (Fault f)) = (judged (outline w) ≡ Err f) × (after ≡ before)
 Appended before w after (Err Memory) = after ≡ before
 
 -- the tape of a list of warnings, in memory of its own; where that is wanting, nothing is said
-abbrev pub WrittenAs : List Notice → Result (Vec ℕ Global) WriteError → Type 0
+abbrev pub WrittenAs : List Notice → Result (Vec ℕ Global) (Failure WarningFault) → Type 0
 WrittenAs ws (Ok tape) = written ws ≡ Ok (vec_items tape)
 WrittenAs ws (Err (Fault f)) = written ws ≡ Err f
 WrittenAs ws (Err Memory) = Unit {0}

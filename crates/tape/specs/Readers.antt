@@ -6,8 +6,8 @@ use Rattle.warning.specs.Notice.{Notice}
 use Rattle.warning.specs.Meaning.{owned}
 use Rattle.tape.specs.declared.reader.TapeReader.{TapeReader}
 use Rattle.tape.specs.declared.fault.TapeFault.{TapeFault}
-use Rattle.tape.specs.declared.fault.ReadError.{ReadError}
-use Rattle.tape.specs.declared.fault.ReadError.TheVariants.{Fault, Memory}
+use Rattle.tape.specs.declared.fault.Failure.{Failure}
+use Rattle.tape.specs.declared.fault.Failure.TheVariants.{Fault, Memory}
 use Rattle.tape.specs.Reading.{Place, place, entry}
 
 abbrev pub whole_tape : TapeReader → List ℕ
@@ -23,14 +23,14 @@ read_so_far r = map owned (vec_items r.read)
 
 -- The next warning is added at the end and its offset answered; after the last one there is none.
 -- A refusal, and want of memory, leave the reader as it was.
-abbrev pub Next : Place → List Notice → Place → List Notice → Result (Option ℕ) ReadError → Type 0
+abbrev pub Next : Place → List Notice → Place → List Notice → Result (Option ℕ) (Failure TapeFault) → Type 0
 Next p ws q vs (Ok (Some offset)) = (offset ≡ p.at) × (length q.rest < length p.rest) × ((w : Notice) × (entry p ≡ Ok (w, q)) × (vs ≡ ws ++ (w ∷ [])))
 Next p ws q vs (Ok None) = (length p.rest ≡ 0) × (q ≡ p) × (vs ≡ ws)
 Next p ws q vs (Err (Fault f)) = (0 < length p.rest) × (entry p ≡ Err f) × (q ≡ p) × (vs ≡ ws)
 Next p ws q vs (Err Memory) = (q ≡ p) × (vs ≡ ws)
 
 -- a whole tape in memory of its own; where that is wanting, nothing is said
-abbrev pub ReadAs : Result (List Notice) TapeFault → Result (Vec (Warning (Vec ℕ Global)) Global) ReadError → Type 0
+abbrev pub ReadAs : Result (List Notice) TapeFault → Result (Vec (Warning (Vec ℕ Global)) Global) (Failure TapeFault) → Type 0
 ReadAs r (Ok ws) = r ≡ Ok (map owned (vec_items ws))
 ReadAs r (Err (Fault f)) = r ≡ Err f
 ReadAs r (Err Memory) = Unit {0}

@@ -1,15 +1,14 @@
 // Why a tape is not written or not read.
 ghost use Rattle.std.specs.Prelude.{◌≡◌};
 ghost use Rattle.tape.specs.declared.fault.WriteFault.TheVariants.{NoWarning};
-ghost use Rattle.tape.specs.declared.fault.ReadError.TheVariants.{Fault, Memory};
-ghost use Rattle.tape.specs.declared.fault.WriteError.TheVariants.{Fault as Faulty, Memory as NoMemory};
+ghost use Rattle.tape.specs.declared.fault.Failure.TheVariants.{Fault, Memory};
 ghost use Rattle.tape.specs.Refusals.{of_write, of_tape, offset_of};
 
 use std::alloc::{AllocError, AllocFailed};
 use warning::{Refusal, Values, WarningFault};
 
 // Why a warning was not written.
-#[derive(Clone, Copy, Debug)]
+#[derive(Clone, Copy, PartialEq, Eq, Debug)]
 pub enum WriteFault {
     NoWarning(WarningFault),
     // the octets that it takes, and those that the memory has left
@@ -33,11 +32,11 @@ pub enum TapeFault {
     Ended { offset: usize },
 }
 
-impl WriteFault {
-    pub fn refusal(self) -> Refusal
-        ensures { result ≡ of_write self }
-    {
-        match self {
+impl From<WriteFault> for Refusal {
+    ghost from_gives = { λ f r. r ≡ of_write f };
+
+    fn from(fault: WriteFault) -> Refusal {
+        match fault {
             WriteFault::NoWarning(fault) => fault.into(),
             WriteFault::Full { cost, free } => Refusal {
                 number: 12,
@@ -57,74 +56,66 @@ impl TapeFault {
             TapeFault::Ended { offset } => offset,
         }
     }
+}
 
-    pub fn refusal(self) -> Refusal
-        ensures { result ≡ of_tape self }
-    {
-        match self {
-            TapeFault::Unknown { offset } => Refusal {
-                number: 18,
-                values: Values::One(offset),
-            },
-            TapeFault::Ended { offset } => Refusal {
-                number: 19,
-                values: Values::One(offset),
-            },
+impl From<TapeFault> for Refusal {
+    ghost from_gives = { λ f r. r ≡ of_tape f };
+
+    fn from(fault: TapeFault) -> Refusal {
+        let number = match fault {
+            TapeFault::Unknown { .. } => 18,
+            TapeFault::Ended { .. } => 19,
+        };
+        Refusal {
+            number,
+            values: Values::One(fault.offset()),
         }
     }
 }
 
-// Why a tape was not read: it is none, or memory was wanting.
+// Why a call that needs memory failed: by a fault, or because memory was
+// wanting.
 #[derive(Clone, Copy, PartialEq, Eq, Debug)]
-pub enum ReadError {
-    Fault(TapeFault),
+pub enum Failure<F> {
+    Fault(F),
     Memory,
 }
 
+// Why a tape was not read.
+pub type ReadError = Failure<TapeFault>;
+
+// Why a list of warnings was not written.
+pub type WriteError = Failure<WarningFault>;
+
+// Kept: one impl for every `F` would overlap with that for `AllocError`.
 impl From<TapeFault> for ReadError {
     ghost from_gives = { λ f r. r ≡ Fault f };
 
     fn from(f: TapeFault) -> ReadError {
-        ReadError::Fault(f)
+        Failure::Fault(f)
     }
-}
-
-impl From<AllocError> for ReadError {
-    ghost from_gives = { λ _ r. r ≡ Memory };
-
-    fn from(_e: AllocError) -> ReadError {
-        ReadError::Memory
-    }
-}
-
-impl<T: Drop> From<AllocFailed<T>> for ReadError {
-    ghost from_gives = { λ _ r. r ≡ Memory };
-
-    fn from(_e: AllocFailed<T>) -> ReadError {
-        ReadError::Memory
-    }
-}
-
-// Why a list of warnings was not written: one of them is none, or memory was
-// wanting.
-#[derive(Clone, Copy, PartialEq, Eq, Debug)]
-pub enum WriteError {
-    Fault(WarningFault),
-    Memory,
 }
 
 impl From<WarningFault> for WriteError {
-    ghost from_gives = { λ f r. r ≡ Faulty f };
+    ghost from_gives = { λ f r. r ≡ Fault f };
 
     fn from(f: WarningFault) -> WriteError {
-        WriteError::Fault(f)
+        Failure::Fault(f)
     }
 }
 
-impl From<AllocError> for WriteError {
-    ghost from_gives = { λ _ r. r ≡ NoMemory };
+impl<F> From<AllocError> for Failure<F> {
+    ghost from_gives = { λ _ r. r ≡ Memory };
 
-    fn from(_e: AllocError) -> WriteError {
-        WriteError::Memory
+    fn from(_e: AllocError) -> Failure<F> {
+        Failure::Memory
+    }
+}
+
+impl<F, T: Drop> From<AllocFailed<T>> for Failure<F> {
+    ghost from_gives = { λ _ r. r ≡ Memory };
+
+    fn from(_e: AllocFailed<T>) -> Failure<F> {
+        Failure::Memory
     }
 }

@@ -1,6 +1,7 @@
 // Reading and writing whole tapes.
 ghost use Rattle.std.specs.Prelude.{◌≡◌, ℕ, List, [], ◌∷◌, ◌++◌, map, take, IfOk, IfErr, Ok};
 ghost use Rattle.warning.specs.Meaning.{owned};
+ghost use Rattle.tape.specs.declared.fault.Failure.TheVariants.{Memory};
 ghost use Rattle.tape.specs.Format.{encode_all};
 ghost use Rattle.tape.specs.Promises.{ReadsWhatWasWritten, WritesWhatWasRead};
 ghost use Rattle.tape.specs.Readers.{whole_tape, stands_at, read_so_far, Next, ReadAs};
@@ -60,7 +61,7 @@ impl<'a> TapeReader<'a> {
     pub fn write_back(&self, heap: Global) -> Result<Vec<u8>, WriteError>
         ensures same { IfOk result (λ v. v.items ≡ take (stands_at self.now).at (whole_tape self.now)) }
         ensures reads_back { IfOk result (λ v. read_tape v.items ≡ Ok (read_so_far self.now)) }
-        ensures wanting { IfErr result (λ e. e ≡ WriteError.Memory) }
+        ensures wanting { IfErr result (λ e. e ≡ Memory) }
         ensures round_trips { ReadsWhatWasWritten × WritesWhatWasRead }
     {
         write_all(heap, self.read.as_slice())

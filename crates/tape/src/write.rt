@@ -1,11 +1,14 @@
 // Writing one warning into lent memory.
-ghost use Rattle.std.specs.Prelude.{◌≡◌, ℕ, ◌+◌, ◌-◌, ◌≤◌, true, ◌++◌, length, is_ok, IfOk, if◌then◌else◌};
+ghost use Rattle.std.specs.Prelude.{◌≡◌, ℕ, ◌+◌, ◌-◌, ◌≤◌, true, ◌++◌, ◌∷◌, length, is_ok, IfOk, if◌then◌else◌};
+ghost use Rattle.std.specs.Option.{unwrap_or};
 ghost use Rattle.octets.specs.Octets.{two, written};
-ghost use Rattle.warning.specs.Meaning.{lent, said};
+ghost use Rattle.warning.specs.Meaning.{said};
 ghost use Rattle.warning.specs.Notice.{outline};
+ghost use Rattle.warning.specs.Numbers.{most_octets};
 ghost use Rattle.warning.specs.Rules.{is_warning};
-ghost use Rattle.tape.specs.Format.{encode, piece, pieces, part_cost, pair_octets, primary_head, area_head, message_head, security_part, octets_of};
-ghost use Rattle.tape.specs.Writing.{costed, write_outcome};
+ghost use Rattle.tape.specs.Numbers.{data_octets, longest_entry};
+ghost use Rattle.tape.specs.Format.{encode, flag_of, piece, pieces, part_cost, pair_octets};
+ghost use Rattle.tape.specs.Writing.{costed, write_outcome, head_octets, body_octets, HasRoom, HasPut};
 ghost use Rattle.tape.specs.Promises.{Longest};
 
 use crate::fault::*;
@@ -16,9 +19,8 @@ use warning::{Outline, Pair, Warning, WarningFault};
 
 // The octets that the data commands of a part take.
 fn part_cost(octets: usize) -> usize
-    requires { octets ≤ 16384 }
-    ensures value { result ≡ part_cost octets }
-    ensures bound { result ≤ 17408 }
+    requires { octets ≤ most_octets }
+    ensures { result ≡ part_cost octets }
 {
     octets.div_ceil(DATA_OCTETS) * DATA_COMMAND_OCTETS
 }
@@ -26,7 +28,7 @@ fn part_cost(octets: usize) -> usize
 // The octets that a warning takes, by its kind and lengths.
 pub fn cost(outline: Outline) -> Result<usize, WarningFault>
     ensures value { result ≡ costed outline }
-    ensures bound { IfOk result (λ n. n ≤ 17454) }
+    ensures bound { IfOk result (λ n. n ≤ longest_entry) }
 {
     outline.judge()?;
     match outline {
@@ -44,39 +46,7 @@ pub fn longest_entry() -> usize
     LONGEST_ENTRY
 }
 
-// One data command.
-fn put_piece(memory: &mut [u8], at: usize, part: &[u8]) -> usize
-    requires fit { at + 34 ≤ length memory.old }
-    requires few { length part.now ≤ 32 }
-    ensures next { result ≡ at + 34 }
-    ensures after { memory.new ≡ written at (piece part.now) memory.old }
-{
-    let count = part.len();
-    let next = put(memory, at, &[DATA, count as u8]);
-    let next = put(memory, next, part);
-    let zeros = [0u8; DATA_OCTETS];
-    put(memory, next, &zeros[count..])
-}
-
-// The data commands of one part.
-fn put_part(memory: &mut [u8], at: usize, part: &[u8]) -> usize
-    requires few { length part.now ≤ 16384 }
-    requires fit { at + part_cost (length part.now) ≤ length memory.old }
-    ensures next { result ≡ at + part_cost (length part.now) }
-    ensures after { memory.new ≡ written at (pieces part.now) memory.old }
-{
-    let mut next = at;
-    let mut left = part;
-    while left.len() > DATA_OCTETS {
-        next = put_piece(memory, next, &left[0..DATA_OCTETS]);
-        left = &left[DATA_OCTETS..];
-    }
-    if left.is_empty() {
-        return next;
-    }
-    put_piece(memory, next, left)
-}
-
+// The octets of a pair.
 fn pair_octets(pair: Pair) -> [u8; 4]
     ensures { result ≡ pair_octets pair }
 {
@@ -85,96 +55,109 @@ fn pair_octets(pair: Pair) -> [u8; 4]
     [i1, i0, s1, s0]
 }
 
-fn primary_head(pair: Pair, warning_type: u16) -> [u8; 7]
-    ensures { result ≡ primary_head pair warning_type }
+// A length, which two octets can hold.
+fn length_octets(length: usize) -> [u8; 2]
+    requires { length ≤ most_octets }
+    ensures { result ≡ two length }
 {
-    let [i1, i0, s1, s0] = pair_octets(pair);
-    let [t1, t0] = warning_type.to_be_bytes();
-    [PRIMARY, i1, i0, s1, s0, t1, t0]
+    (length as u16).to_be_bytes()
 }
 
-fn put_primary(
-    memory: &mut [u8],
-    at: usize,
-    pair: Pair,
-    warning_type: u16,
-    security: Option<&[u8]>,
-) -> usize
-    requires fit { at + 58 ≤ length memory.old }
-    requires sized { length (security_part (lent security)) ≡ 51 }
-    ensures next { result ≡ at + 58 }
-    ensures after { memory.new ≡ written at (encode (Warning.Primary pair warning_type (lent security.entry))) memory.old }
+// The flag and the length of an area.
+fn area_head(area: Option<usize>) -> [u8; 3]
+    requires { unwrap_or area 0 ≤ most_octets }
+    ensures { result ≡ flag_of area ∷ two (unwrap_or area 0) }
 {
-    let next = put(memory, at, &primary_head(pair, warning_type));
-    match security {
-        Some(octets) => {
-            let next = put(memory, next, &[1]);
-            put(memory, next, octets)
+    let [a1, a0] = length_octets(area.unwrap_or(0));
+    [u8::from(area.is_some()), a1, a0]
+}
+
+// Lent memory, and the place in it where the next octets go.
+#[derive(Drop)]
+struct Output<'m> {
+    memory: &'m mut [u8],
+    at: usize,
+}
+
+impl Output<'_> {
+    // Octets, which have to fit.
+    fn put(&mut self, octets: &[u8])
+        requires { HasRoom self.old octets.now }
+        ensures { HasPut self.old octets.now self.new }
+    {
+        self.at = put(self.memory, self.at, octets);
+    }
+
+    // One data command.
+    fn put_piece(&mut self, octets: &[u8])
+        requires few { length octets.now ≤ data_octets }
+        requires fit { HasRoom self.old (piece octets.now) }
+        ensures { HasPut self.old (piece octets.now) self.new }
+    {
+        let zeros = [0u8; DATA_OCTETS];
+        self.put(&[DATA, octets.len() as u8]);
+        self.put(octets);
+        self.put(&zeros[octets.len()..]);
+    }
+
+    // The data commands of one part.
+    fn put_part(&mut self, part: &[u8])
+        requires fit { HasRoom self.old (pieces part.now) }
+        ensures { HasPut self.old (pieces part.now) self.new }
+    {
+        for piece in part.chunks(DATA_OCTETS) {
+            self.put_piece(piece);
         }
-        None => put(memory, next, &[0u8; 1 + SECURITY_OCTETS]),
     }
-}
 
-// The octets of a part that may be absent.
-fn optional_octets(part: Option<&[u8]>) -> &[u8]
-    ensures { result.now ≡ octets_of (lent part.entry) }
-{
-    match part {
-        Some(octets) => octets,
-        None => &[],
+    // The head of a warning: its command octet, and the operands before its
+    // octets.
+    fn put_head(&mut self, outline: Outline)
+        requires right { is_warning outline ≡ true }
+        requires fit { HasRoom self.old (head_octets outline) }
+        ensures { HasPut self.old (head_octets outline) self.new }
+    {
+        match outline {
+            Outline::Primary {
+                pair,
+                warning_type,
+                security,
+            } => {
+                let [i1, i0, s1, s0] = pair_octets(pair);
+                let [t1, t0] = warning_type.to_be_bytes();
+                let flag = u8::from(security.is_some());
+                self.put(&[PRIMARY, i1, i0, s1, s0, t1, t0, flag]);
+            }
+            Outline::Message {
+                block,
+                pair,
+                coding,
+                message,
+                area,
+            } => {
+                let [i1, i0, s1, s0] = pair_octets(pair);
+                let [m1, m0] = length_octets(message);
+                let [flag, a1, a0] = area_head(area);
+                self.put(&[MESSAGE, block, i1, i0, s1, s0, coding, m1, m0, flag, a1, a0]);
+            }
+        }
     }
-}
 
-// The octets of a length, which two octets can hold.
-fn length_octets(octets: &[u8]) -> [u8; 2]
-    requires { length octets.now ≤ 16384 }
-    ensures { result ≡ two (length octets.now) }
-{
-    (octets.len() as u16).to_be_bytes()
-}
-
-fn area_head(area: Option<&[u8]>) -> [u8; 3]
-    requires { length (octets_of (lent area)) ≤ 16384 }
-    ensures { result ≡ area_head (lent area.entry) }
-{
-    let [a1, a0] = length_octets(optional_octets(area));
-    match area {
-        Some(_) => [1, a1, a0],
-        None => [0, a1, a0],
+    // The body of a warning: its octets.
+    fn put_body(&mut self, w: Warning<&[u8]>)
+        requires fit { HasRoom self.old (body_octets (said w)) }
+        ensures { HasPut self.old (body_octets (said w.entry)) self.new }
+    {
+        match w {
+            Warning::Primary { security, .. } => {
+                self.put(security.unwrap_or(&[0; SECURITY_OCTETS]));
+            }
+            Warning::Message { message, area, .. } => {
+                self.put_part(message);
+                self.put_part(area.unwrap_or(&[]));
+            }
+        }
     }
-}
-
-fn message_head(
-    block: u8,
-    pair: Pair,
-    coding: u8,
-    message: &[u8],
-    area: Option<&[u8]>,
-) -> [u8; MESSAGE_OCTETS]
-    requires { length message.now + length (octets_of (lent area)) ≤ 16384 }
-    ensures { result ≡ message_head block pair coding message.now (lent area.entry) }
-{
-    let [i1, i0, s1, s0] = pair_octets(pair);
-    let [m1, m0] = length_octets(message);
-    let [flag, a1, a0] = area_head(area);
-    [MESSAGE, block, i1, i0, s1, s0, coding, m1, m0, flag, a1, a0]
-}
-
-fn put_message(
-    memory: &mut [u8],
-    at: usize,
-    head: &[u8; MESSAGE_OCTETS],
-    message: &[u8],
-    area: &[u8],
-) -> usize
-    requires few { length message.now + length area.now ≤ 16384 }
-    requires fit { at + 12 + part_cost (length message.now) + part_cost (length area.now) ≤ length memory.old }
-    ensures next { result ≡ at + 12 + part_cost (length message.now) + part_cost (length area.now) }
-    ensures after { memory.new ≡ written at (head.now ++ (pieces message.now ++ pieces area.now)) memory.old }
-{
-    let next = put(memory, at, head);
-    let next = put_part(memory, next, message);
-    put_part(memory, next, area)
 }
 
 // Writes a warning at a place of lent memory, and answers the place after it.
@@ -183,26 +166,14 @@ pub fn write(memory: &mut [u8], at: usize, w: Warning<&[u8]>) -> Result<usize, W
     ensures value { result ≡ write_outcome (outline (said w.entry)) (length memory.old - at) at }
     ensures after { memory.new ≡ (if is_ok result then written at (encode (said w.entry)) memory.old else memory.old) }
 {
-    let cost = cost(w.outline())?;
+    let outline = w.outline();
+    let cost = cost(outline)?;
     let free = memory.len().saturating_sub(at);
     if free < cost {
         return Err(WriteFault::Full { cost, free });
     }
-    match w {
-        Warning::Primary {
-            pair,
-            warning_type,
-            security,
-        } => Ok(put_primary(memory, at, pair, warning_type, security)),
-        Warning::Message {
-            block,
-            pair,
-            coding,
-            message,
-            area,
-        } => {
-            let head = message_head(block, pair, coding, message, area);
-            Ok(put_message(memory, at, &head, message, optional_octets(area)))
-        }
-    }
+    let mut output = Output { memory, at };
+    output.put_head(outline);
+    output.put_body(w);
+    Ok(output.at)
 }

@@ -15,12 +15,12 @@ use warning::{Warning, WarningBuf};
 pub fn append(tape: &mut Vec<u8>, w: Warning<&[u8]>) -> Result<(), WriteError>
     ensures { Appended tape.old.items (said w.entry) tape.new.items result }
 {
+    w.judge()?;
     let mut entry = [0u8; LONGEST_ENTRY];
-    match write(&mut entry, 0, w) {
-        Ok(end) => tape.extend_from_slice(&entry[0..end])?,
-        Err(WriteFault::NoWarning(fault)) => return Err(WriteError::Fault(fault)),
-        Err(WriteFault::Full { .. }) => unreachable(),
-    }
+    let Ok(end) = write(&mut entry, 0, w) else {
+        unreachable()
+    };
+    tape.extend_from_slice(&entry[..end])?;
     Ok(())
 }
 

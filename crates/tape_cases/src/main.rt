@@ -2,34 +2,41 @@
 // octets. What is printed is compared with the listings of another program.
 #![tactic(auto)]
 
+ghost use Rattle.std.specs.Prelude.{length};
+ghost use Rattle.std.specs.Iterator.{at_most};
+
 use anyhow::anyhow;
 use listing::list::list;
 use std::alloc::Global;
 use std::io::Read;
 
-// The first tape, and what follows it.
-fn first(input: &[u8]) -> Option<(&[u8], &[u8])> {
-    let [l3, l2, l1, l0, rest @ ..] = input else {
-        return None;
-    };
-    let length = u32::from_be_bytes([*l3, *l2, *l1, *l0]) as usize;
-    if length > rest.len() {
-        return None;
+// The tapes of an input, as long as it begins with one.
+#[derive(Drop)]
+struct Tapes<'a> {
+    rest: &'a [u8],
+}
+
+impl<'a> Iterator for Tapes<'a> {
+    type Item = &'a [u8];
+
+    ghost remaining = { λ tapes. at_most (length tapes.rest.now) };
+
+    fn next(&mut self) -> Option<&'a [u8]> {
+        let (length, rest) = self.rest.split_first_chunk::<4>()?;
+        let length = u32::from_be_bytes(*length) as usize;
+        let (tape, rest) = rest.split_at_checked(length)?;
+        self.rest = rest;
+        Some(tape)
     }
-    Some(rest.split_at(length))
 }
 
 fn list_all(rt: &HostRuntime, heap: Global, input: &[u8]) -> anyhow::Result<()> {
-    let mut rest = input;
-    for n in 0..u64::MAX {
-        let Some((tape, after)) = first(rest) else {
-            break;
-        };
+    let mut tapes = Tapes { rest: input };
+    for (n, tape) in tapes.by_ref().enumerate() {
         println!(rt; "tape {n}")?;
         list(rt, heap, tape)?;
-        rest = after;
     }
-    if rest.is_empty() {
+    if tapes.rest.is_empty() {
         Ok(())
     } else {
         Err(anyhow!("octets that are no tape"))

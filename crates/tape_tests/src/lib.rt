@@ -241,7 +241,7 @@ mod tests {
             return Err(Fail::new("written"));
         };
         assert_eq!(rt;
-            full.refusal(),
+            Refusal::from(full),
             Refusal {
                 number: 12,
                 values: Values::Two(46, 45),

@@ -1,22 +1,19 @@
-use Rattle.std.proofs.Common.{length, ap, arith}
-use Rattle.warning.specs.Meaning.{said, lent}
-use Rattle.warning.specs.Notice.{outline}
-use Rattle.tape.specs.Format.{part_cost}
-use Rattle.tape.proofs.Costs.{costed-cost, write_fits, length-octets_of}
+use Rattle.std.proofs.Common.{arith, rules}
+use Rattle.warning.specs.Meaning.{said}
+use Rattle.tape.proofs.Puts.{body_room, both_put}
 use Rattle.tape.proofs.write.write.Goals as goal
 
-pub returns-in-Message : goal.returns-in-Message
-returns-in-Message c =
-    let put = c.put_message.ensures in
-    let o = outline (said c.args.w) in
-    let value = c.in_ok-cost.ensures.value in
-    let asked = rw c.outline.ensures at value in
-    let area = c.optional_octets.ensures in
-    let same = ap (λ xs. part_cost (length xs)) area in
-    let long = ap part_cost (length-octets_of (lent c.in-Message.area)) in
-    let n = costed-cost o c.in_ok-cost.cost asked in
-    let is = rw c.in-Message.is at n in
-    record {
-      value = write_fits _ c.in_ok-cost.cost _ c.args.at c.put_message.result asked (omega arith) (omega (arith, put.next, same, long, is));
-      after = rw c.in-Message.is (rw (c.message_head-head.ensures, area) at put.after);
-    }
+pub put_body-requires : goal.put_body-requires
+put_body-requires c =
+    let asked = rw c.outline-outline.ensures at c.in_ok-cost.ensures.value in
+    let head = rw c.outline-outline.ensures at c.put_head.ensures in
+    record { fit = body_room (said c.args.w) c.in_ok-cost.cost c.args.at c.put_head.new.self.at c.args.memory.now c.put_head.new.self.memory.now asked (omega arith) head.0 head.1 }
+
+pub returns : goal.returns
+returns c =
+    let asked = rw c.outline-outline.ensures at c.in_ok-cost.ensures.value in
+    let head = rw c.outline-outline.ensures at c.put_head.ensures in
+    let body = c.put_body.ensures in
+    let both = both_put (said c.args.w) c.in_ok-cost.cost c.args.at c.put_head.new.self.at c.put_body.new.self.at c.args.memory.now c.put_head.new.self.memory.now
+    c.put_body.new.self.memory.now asked (omega arith) head.0 head.1 body.0 body.1 in
+    record { value = both.0; after = let written = both.1 in search rules }
