@@ -16,7 +16,7 @@ abbrev pub give_by : Result (Unit {0}) WarningFault → ℕ → ℕ → Result (
 give_by (Err f) cost free = Err (NoWarning f)
 give_by (Ok u) cost free = cond (nat_lt free cost) (Err (Full cost free)) (Ok tt)
 
-abbrev pub give_outcome : Room → List Notice → (Warning ℕ) → Result (Unit {0}) OutletFault
+abbrev pub give_outcome : Room → List Notice → Warning ℕ → Result (Unit {0}) OutletFault
 give_outcome room ws o = give_by (judged o) (room.cost o) (units_free room ws)
 
 -- the newest stands last
@@ -52,5 +52,5 @@ abbrev pub cost_by : Result (Unit {0}) WarningFault → ℕ → Result ℕ Warni
 cost_by (Err f) cost = Err f
 cost_by (Ok u) cost = Ok cost
 
-abbrev pub cost_outcome : Room → (Warning ℕ) → Result ℕ WarningFault
+abbrev pub cost_outcome : Room → Warning ℕ → Result ℕ WarningFault
 cost_outcome room o = cost_by (judged o) (room.cost o)

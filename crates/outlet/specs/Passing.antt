@@ -13,9 +13,9 @@ abbrev pub Ready : List Notice → ℕ → Type 0
 Ready ws n = (ws ≡ []) × (most_octets ≤ n)
 
 -- only what is no warning is refused
-abbrev pub pass_by : Result (Unit {0}) WarningFault → (Warning ℕ) → Result (Warning ℕ) OutletFault
+abbrev pub pass_by : Result (Unit {0}) WarningFault → Warning ℕ → Result (Warning ℕ) OutletFault
 pass_by (Err f) o = Err (NoWarning f)
 pass_by (Ok u) o = Ok o
 
-abbrev pub pass_outcome : (Warning ℕ) → Result (Warning ℕ) OutletFault
+abbrev pub pass_outcome : Warning ℕ → Result (Warning ℕ) OutletFault
 pass_outcome o = pass_by (judged o) o

@@ -34,25 +34,17 @@ impl From<WarningFault> for OutletFault {
     }
 }
 
-impl OutletFault {
-    pub fn refusal(self) -> Refusal
-        ensures { result ≡ of_outlet self }
-    {
-        match self {
-            OutletFault::NoWarning(fault) => fault.into(),
-            OutletFault::Full { cost, free } => Refusal {
-                number: 12,
-                values: Values::Two(cost, free),
-            },
-            OutletFault::Buffer(length) => Refusal {
-                number: 1,
-                values: Values::One(length),
-            },
-            OutletFault::Empty => Refusal {
-                number: 16,
-                values: Values::Nothing,
-            },
-        }
+impl From<OutletFault> for Refusal {
+    ghost from_gives = { λ f r. r ≡ of_outlet f };
+
+    fn from(fault: OutletFault) -> Refusal {
+        let (number, values) = match fault {
+            OutletFault::NoWarning(fault) => return fault.into(),
+            OutletFault::Full { cost, free } => (12, Values::Two(cost, free)),
+            OutletFault::Buffer(length) => (1, Values::One(length)),
+            OutletFault::Empty => (16, Values::Nothing),
+        };
+        Refusal { number, values }
     }
 }
 

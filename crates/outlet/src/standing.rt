@@ -2,8 +2,8 @@
 // the start of a memory.
 ghost use Rattle.std.specs.Prelude.{◌≡◌, ℕ, ◌≤◌, true, length, Ok};
 ghost use Rattle.octets.specs.Octets.{written};
-ghost use Rattle.warning.specs.Contents.{octet_count, octets, part_octets};
-ghost use Rattle.warning.specs.Meaning.{lent, said};
+ghost use Rattle.warning.specs.Contents.{octet_count, octets};
+ghost use Rattle.warning.specs.Meaning.{said};
 ghost use Rattle.warning.specs.Notice.{outline};
 ghost use Rattle.warning.specs.Numbers.{most_octets};
 ghost use Rattle.warning.specs.Rules.{is_warning};
@@ -36,16 +36,6 @@ pub fn octet_count(outline: Outline) -> usize
     }
 }
 
-// The octets of a part that may be absent.
-fn optional_octets(part: Option<&[u8]>) -> &[u8]
-    ensures { result.now ≡ part_octets (lent part.entry) }
-{
-    match part {
-        Some(octets) => octets,
-        None => &[],
-    }
-}
-
 // Writes the octets of a warning to the start of the memory, where they have
 // to fit: the message and then the area, or the security information.
 pub fn lay(memory: &mut [u8], w: Warning<&[u8]>)
@@ -54,11 +44,11 @@ pub fn lay(memory: &mut [u8], w: Warning<&[u8]>)
 {
     match w {
         Warning::Primary { security, .. } => {
-            put(memory, 0, optional_octets(security));
+            put(memory, 0, security.unwrap_or(&[]));
         }
         Warning::Message { message, area, .. } => {
             let next = put(memory, 0, message);
-            put(memory, next, optional_octets(area));
+            put(memory, next, area.unwrap_or(&[]));
         }
     }
 }

@@ -1,4 +1,3 @@
 pub mod Numbers
-pub mod Placed
 pub mod Holding
-pub mod Ring
+pub mod Laws

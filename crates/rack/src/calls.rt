@@ -1,15 +1,17 @@
 // The calls of the rack.
-ghost use Rattle.std.specs.Prelude.{◌≡◌, ◌≤◌, true, List, [], length, Some};
+ghost use Rattle.std.specs.Prelude.{◌≡◌, ◌≤◌, true, List, [], length};
+ghost use Rattle.std.specs.List.{slice_get};
+ghost use Rattle.std.specs.Option.{option_map};
+ghost use Rattle.octets.specs.Octets.{written};
+ghost use Rattle.warning.specs.Contents.{octets};
 ghost use Rattle.warning.specs.Meaning.{said};
 ghost use Rattle.warning.specs.Notice.{outline};
 ghost use Rattle.warning.specs.Numbers.{most_octets};
 ghost use Rattle.warning.specs.Rules.{is_warning};
-ghost use Rattle.outlet.specs.Outcomes.{first_of, first_copied};
 ghost use Rattle.rack.specs.Numbers.{rack_room};
-ghost use Rattle.rack.specs.Placed.{kept_in};
-ghost use Rattle.rack.specs.Holding.{holding};
-ghost use Rattle.rack.specs.Ring;
-ghost use Rattle.rack.specs.Ring.{costs_within, warnings_held};
+ghost use Rattle.rack.specs.Holding.{lies, holding};
+ghost use Rattle.rack.specs.Laws;
+ghost use Rattle.rack.specs.Laws.{costs_within, warnings_held};
 
 use crate::numbers::*;
 use crate::{Place, Rack};
@@ -20,13 +22,37 @@ use warning::numbers::*;
 use warning::{Outline, Pair, Warning, WarningFault};
 
 impl Place {
+    // A place before its first warning.
+    fn new() -> Place {
+        Place {
+            outline: Outline::Primary {
+                pair: Pair {
+                    identifier: 0,
+                    serial: 0,
+                },
+                warning_type: 0,
+                security: None,
+            },
+            octets: [0; MOST_OCTETS],
+        }
+    }
+
     // Keeps a warning here.
     fn keep(&mut self, w: Warning<&[u8]>)
         requires { is_warning (outline (said w)) ≡ true }
-        ensures { self.new ≡ kept_in (said w.entry) self.old }
+        ensures { lies self.new ≡ said w.entry }
     {
         lay(&mut self.octets, w);
-        self.head = w.outline();
+        self.outline = w.outline();
+    }
+
+    // Copies the octets of the warning here to the start of the buffer.
+    fn copy(&self, buffer: &mut [u8])
+        requires { most_octets ≤ length buffer.old }
+        ensures { buffer.new ≡ written 0 (octets (lies self.now)) buffer.old }
+    {
+        let count = octet_count(self.outline);
+        put(buffer, 0, &self.octets[..count]);
     }
 }
 
@@ -35,46 +61,22 @@ impl Rack {
     pub fn new() -> Rack
         ensures { holding result ≡ [] }
     {
-        let head = Outline::Primary {
-            pair: Pair {
-                identifier: 0,
-                serial: 0,
-            },
-            warning_type: 0,
-            security: None,
-        };
-        let place = Place {
-            head,
-            octets: [0; MOST_OCTETS],
-        };
         Rack {
-            places: [place; PLACES],
+            places: [Place::new(); PLACES],
             oldest: 0,
             count: 0,
         }
     }
 
-    // The oldest warning without its octets, if there is one.
-    fn head(&self) -> Option<Outline>
-        ensures { result ≡ first_of (holding self.now) }
+    // The place of the oldest warning, if there is one.
+    fn first_place(&self) -> Option<&Place>
+        ensures { option_map (λ place. lies place.now) result ≡ slice_get (holding self.now) 0 }
     {
         if self.count == 0 {
-            return None;
+            None
+        } else {
+            Some(&self.places[self.oldest])
         }
-        let places = &self.places;
-        Some(places[self.oldest].head)
-    }
-
-    // Copies the octets of the oldest warning, whose outline is given, to the
-    // start of the buffer.
-    fn copy_oldest(&self, outline: Outline, buffer: &mut [u8])
-        requires told { Some outline ≡ first_of (holding self.now) }
-        requires long { most_octets ≤ length buffer.old }
-        ensures { buffer.new ≡ first_copied (holding self.now) buffer.old }
-    {
-        let count = octet_count(outline);
-        let octets = &self.places[self.oldest].octets;
-        put(buffer, 0, &octets[0..count]);
     }
 }
 
@@ -83,37 +85,37 @@ impl Outlet for Rack {
 
     ghost room = { λ _. rack_room };
 
-    ghost lawful = { λ s. Ring.lawful };
+    ghost lawful = { λ s. Laws.lawful };
 
-    ghost within = { λ s. costs_within s.places s.oldest s.count s.few };
+    ghost within = { costs_within };
 
-    ghost right = { λ s. warnings_held s.places s.all s.long s.right s.oldest s.count s.low };
+    ghost right = { warnings_held };
 
     fn give(&mut self, w: Warning<&[u8]>) -> Result<(), OutletFault> {
         w.judge()?;
-        let free = PLACES - self.count;
+        let free = self.free();
         if free < COST {
             return Err(OutletFault::Full { cost: COST, free });
         }
         let i = (self.oldest + self.count) % PLACES;
-        self.places[i].keep(w);
+        let places = &mut self.places;
+        places[i].keep(w);
         self.count += 1;
         Ok(())
     }
 
     fn take(&mut self, buffer: &mut [u8]) -> Result<Outline, OutletFault> {
         check_buffer(buffer)?;
-        let Some(outline) = self.head() else {
-            return Err(OutletFault::Empty);
-        };
-        self.copy_oldest(outline, buffer);
+        let place = self.first_place().ok_or(OutletFault::Empty)?;
+        let outline = place.outline;
+        place.copy(buffer);
         self.oldest = (self.oldest + 1) % PLACES;
         self.count -= 1;
         Ok(outline)
     }
 
     fn first(&self) -> Option<Outline> {
-        self.head()
+        self.first_place().map(|place| place.outline)
     }
 
     fn free(&self) -> usize {

@@ -1,9 +1,10 @@
 // An outlet with a place of its own for each warning.
 #![tactic(auto)]
 
-ghost use Rattle.std.specs.Prelude.{◌≡◌, ◌<◌, ◌≤◌, length};
+ghost use Rattle.std.specs.Prelude.{◌≡◌, ◌<◌, ◌≤◌, true, length};
+ghost use Rattle.warning.specs.Numbers.{most_octets};
+ghost use Rattle.warning.specs.Rules.{is_warning};
 ghost use Rattle.rack.specs.Numbers.{place_count};
-ghost use Rattle.rack.specs.Placed.{Long, Right};
 
 use crate::numbers::*;
 use warning::Outline;
@@ -16,12 +17,15 @@ pub mod numbers;
 // the area, or the security information.
 #[derive(Clone, Copy)]
 pub struct Place {
-    head: Outline,
+    outline: Outline,
     octets: [u8; MOST_OCTETS],
+    ghost right: { is_warning outline ≡ true },
+    ghost long: { length octets ≡ most_octets },
 }
 
 // The places, of which those in use follow one another from the oldest
 // warning on; after the last place comes the first.
+// Kept: a ring by hand, since the library's is on the heap, and a vector moves the places at a take.
 #[derive(Drop)]
 pub struct Rack {
     places: [Place; PLACES],
@@ -30,6 +34,4 @@ pub struct Rack {
     ghost all: { length places ≡ place_count },
     ghost low: { oldest < place_count },
     ghost few: { count ≤ place_count },
-    ghost long: { Long places },
-    ghost right: { Right places },
 }

@@ -1,10 +1,11 @@
 // The calls of the tape outlet.
-ghost use Rattle.std.specs.Prelude.{◌≡◌, ℕ, ◌<◌, ◌≤◌, List, [], length, Some, Ok};
+ghost use Rattle.std.specs.Prelude.{◌≡◌, ℕ, ◌≤◌, List, [], length, Some, Ok};
+ghost use Rattle.std.specs.Option.{option_map};
 ghost use Rattle.warning.specs.Numbers.{most_octets};
 ghost use Rattle.tape.specs.Format.{encode_all};
 ghost use Rattle.tape.specs.Reading.{read_tape};
 ghost use Rattle.outlet.specs.Outcomes.{first_of, first_copied, without_first};
-ghost use Rattle.tape_outlet.specs.Numbers.{tape_room};
+ghost use Rattle.tape_outlet.specs.Numbers.{tape_room, with_cost};
 ghost use Rattle.tape_outlet.specs.Written.{as_outlet};
 ghost use Rattle.tape_outlet.specs.Holding.{holding};
 ghost use Rattle.tape_outlet.specs.Kept;
@@ -20,6 +21,7 @@ use tape::write::{cost, write};
 use warning::{Outline, Warning, WarningFault};
 
 // A refusal of writing as the outlet's.
+// Kept: no `From`, since both types are of other crates.
 fn as_outlet_fault(fault: WriteFault) -> OutletFault
     ensures { result ≡ as_outlet fault }
 {
@@ -48,42 +50,23 @@ impl TapeOutlet {
         &self.octets[0..self.used]
     }
 
-    // The oldest warning without its octets, if there is one.
-    fn head(&self) -> Option<Outline>
-        ensures { result ≡ first_of (holding self.now) }
-    {
-        if self.used == 0 {
-            return None;
-        }
-        match read_head(self.tape(), 0) {
-            Ok((outline, _)) => Some(outline),
-            Err(_) => unreachable(),
-        }
-    }
-
-    // Copies the octets of the oldest warning to the start of the buffer, and
-    // answers its outline.
-    fn copy_oldest(&self, buffer: &mut [u8]) -> Outline
-        requires some { 0 < self.now.used }
-        requires long { most_octets ≤ length buffer.old }
-        ensures value { Some result ≡ first_of (holding self.now) }
+    // Copies the octets of the oldest warning, if there is one, to the start
+    // of the buffer, and answers its outline and how many octets it takes on
+    // tape.
+    fn copy_oldest(&self, buffer: &mut [u8]) -> Option<(Outline, usize)>
+        requires { most_octets ≤ length buffer.old }
+        ensures value { result ≡ option_map with_cost (first_of (holding self.now)) }
         ensures after { buffer.new ≡ first_copied (holding self.now) buffer.old }
     {
-        match copy_entry(self.tape(), 0, buffer) {
-            Ok((outline, _)) => outline,
-            Err(_) => unreachable(),
-        }
+        copy_entry(self.tape(), 0, buffer).ok()
     }
 
-    // Removes the oldest warning, whose outline is given: the octets after it
-    // move to the front.
-    fn remove_oldest(&mut self, outline: Outline)
-        requires { Some outline ≡ first_of (holding self.old) }
+    // Removes the oldest warning, which takes so many octets on tape: the
+    // octets after it move to the front.
+    fn remove_oldest(&mut self, freed: usize)
+        requires { Some freed ≡ option_map tape_room.cost (first_of (holding self.old)) }
         ensures { holding self.new ≡ without_first (holding self.old) }
     {
-        let Ok(freed) = cost(outline) else {
-            unreachable()
-        };
         self.octets.copy_within(freed..self.used, 0);
         self.used -= freed;
     }
@@ -101,27 +84,20 @@ impl Outlet for TapeOutlet {
     ghost right = { λ s. each_right (holding s) s.right };
 
     fn give(&mut self, w: Warning<&[u8]>) -> Result<(), OutletFault> {
-        match write(&mut self.octets, self.used, w) {
-            Ok(end) => {
-                self.used = end;
-                Ok(())
-            }
-            Err(fault) => Err(as_outlet_fault(fault)),
-        }
+        let end = write(&mut self.octets, self.used, w).map_err(as_outlet_fault)?;
+        self.used = end;
+        Ok(())
     }
 
     fn take(&mut self, buffer: &mut [u8]) -> Result<Outline, OutletFault> {
         check_buffer(buffer)?;
-        if self.used == 0 {
-            return Err(OutletFault::Empty);
-        }
-        let outline = self.copy_oldest(buffer);
-        self.remove_oldest(outline);
+        let (outline, freed) = self.copy_oldest(buffer).ok_or(OutletFault::Empty)?;
+        self.remove_oldest(freed);
         Ok(outline)
     }
 
     fn first(&self) -> Option<Outline> {
-        self.head()
+        read_head(self.tape(), 0).ok().map(|(outline, _)| outline)
     }
 
     fn free(&self) -> usize {

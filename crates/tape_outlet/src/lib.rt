@@ -14,6 +14,7 @@ pub mod numbers;
 
 // The memory, and how many octets of it are in use. At all times these are
 // the written form of the warnings that they read as.
+// Kept: a count beside them, since a vector of fixed capacity does not lend its free octets to write in.
 #[derive(Drop)]
 pub struct TapeOutlet {
     octets: [u8; TAPE_OCTETS],

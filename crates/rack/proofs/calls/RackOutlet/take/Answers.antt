@@ -1,17 +1,20 @@
-use Rattle.std.proofs.Common.{length, sym, refl, ◌∙◌}
-use Rattle.outlet.proofs.Answered.{take_long, some_taken}
-use Rattle.rack.specs.Holding.{holding}
-use Rattle.rack.specs.Ring.{some_held, without_oldest}
+use Rattle.std.proofs.Common.{◌≡◌, Some, sym, ap, ◌∙◌, arith}
+use Rattle.std.specs.List.{slice_get}
+use Rattle.outlet.specs.Outcomes.{without_first}
+use Rattle.rack.specs.Holding.{lies, holding}
+use Rattle.rack.proofs.Ring.{first_lies, some_held, first-copied}
 use Rattle.rack.proofs.calls.RackOutlet.take.Goals as goal
 
-pub returns : goal.returns
-returns c =
+pub returns-clause-after : goal.returns-clause-after
+returns-clause-after c =
     let s = c.args.self.now in
-    let o = c.in-Some.outline in
-    let told = c.in-Some.ensures in
-    record {
-      value = sym (take_long (holding s) (length c.args.buffer.now) _ c.in_ok-check_buffer.ensures ∙ some_taken (holding s) o told);
-      after = without_oldest s.places s.oldest _ s.count (some_held s.places s.oldest s.count o told) refl;
-      copied = c.copy_oldest.ensures;
-      same = refl;
-    }
+    let place = c.in_ok-place.place.now in
+    let told : Some (lies place) ≡ slice_get (holding s) 0 = grind arith in
+    sym (ap without_first (first_lies s place (some_held s (lies place) told)))
+
+pub returns-clause-copied : goal.returns-clause-copied
+returns-clause-copied c =
+    let s = c.args.self.now in
+    let place = c.in_ok-place.place.now in
+    let told : Some (lies place) ≡ slice_get (holding s) 0 = grind arith in
+    c.copy.ensures ∙ first-copied (holding s) (lies place) c.args.buffer.now told

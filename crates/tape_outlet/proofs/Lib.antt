@@ -1,0 +1,2 @@
+pub mod Tapes
+pub mod Writes
