@@ -1,7 +1,8 @@
 -- How the reading of a whole tape ends.
-use Rattle.std.proofs.Common.{◌≡◌, ℕ, ◌+◌, ◌<◌, true, false, List, ◌++◌, length, take, drop, is_some, Some, None, Ok, Err, Option, sym, ap, ◌∙◌, arith}
+use Rattle.std.proofs.Common.{◌≡◌, ℕ, ◌+◌, ◌<◌, true, false, List, [], ◌∷◌, ◌++◌, length, take, drop, is_some, Some, None, Ok, Err, Option, sym, ap, ◌∙◌, arith}
 use Rattle.std.proofs.lemmas.List.{length-drop, length-take-le, take_all, take-append-drop}
 use Rattle.tape.specs.declared.fault.TapeFault.{TapeFault}
+use Rattle.tape.specs.declared.fault.TapeFault.TheVariants.{Ended}
 use Rattle.tape.specs.declared.fault.Failure.{Failure}
 use Rattle.tape.specs.declared.fault.Failure.TheVariants.{Fault, Memory}
 use Rattle.warning.specs.Notice.{Notice}
@@ -9,6 +10,7 @@ use Rattle.tape.specs.Format.{encode_all}
 use Rattle.tape.specs.Reading.{Place, place, entry, followed, read_tape}
 use Rattle.tape.specs.declared.reader.TapeReader.{TapeReader}
 use Rattle.tape.specs.Readers.{whole_tape, read_so_far, Next, ReadAs}
+use Rattle.tape.proofs.Splits.{then_err, octet_none}
 use Rattle.tape.proofs.Steps.{Reached}
 use Rattle.tape.proofs.Whole.{all_read, all_read_step, all_read_at, prepended_all, prepended_err, reads_back}
 
@@ -58,3 +60,9 @@ ends_err t at ws vs q Memory r n = tt
 -- a reader's own facts
 pub reached : (r : TapeReader) → Reached (whole_tape r) r.at (read_so_far r)
 reached r = record { within = r.within; right = r.right; written = r.written }
+
+-- where there are no octets, there is no warning
+pub entry_none : (at : ℕ) (t : List ℕ) → length t < 1 → entry (place at t) ≡ Err (Ended at)
+unfolding entry
+entry_none at [] h = let e : at + 0 ≡ at = omega arith in then_err _ _ _ (octet_none (λ c. true) at [] h) ∙ ap (λ z. Err (Ended z)) e
+entry_none at (x ∷ t) h = absurd (omega arith)

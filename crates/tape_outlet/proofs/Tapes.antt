@@ -18,7 +18,8 @@ use Rattle.tape.specs.Reading.{place, entry, read_tape}
 use Rattle.tape.proofs.Costs.{length-encode}
 use Rattle.tape.proofs.Entries.{entry_at}
 use Rattle.tape.proofs.Readings.{head_of}
-use Rattle.tape.proofs.Splits.{then_err, octet_none, entry_none}
+use Rattle.tape.proofs.Ends.{entry_none}
+use Rattle.tape.proofs.Splits.{then_err, octet_none}
 use Rattle.tape.proofs.Whole.{reads_back}
 use Rattle.outlet.specs.Outcomes.{first_of, without_first, first_copied}
 use Rattle.tape_outlet.specs.declared.TapeOutlet.{TapeOutlet}
