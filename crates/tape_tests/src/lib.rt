@@ -234,7 +234,7 @@ mod tests {
             block: 12,
             pair: PAIR,
             coding: 15,
-            message: &octets,
+            message: octets.as_slice(),
             area: no_area(),
         };
         let Err(full) = write(&mut memory, 15, w) else {
