@@ -7,7 +7,7 @@ use Rattle.octets.proofs.Writes.{then-written, length-written}
 use Rattle.warning.specs.declared.Warning.TheVariants.{Primary, Message}
 use Rattle.warning.specs.Meaning.{lent}
 use Rattle.warning.specs.Notice.{Notice, outline}
-use Rattle.tape.specs.declared.write.Output.{Output}
+use Rattle.tape.specs.declared.output.Output.{Output}
 use Rattle.tape.specs.Format.{encode, octets_of, piece, pieces}
 use Rattle.tape.specs.Writing.{costed, write_outcome, head_octets, body_octets, HasRoom, HasPut}
 use Rattle.tape.proofs.Costs.{costed-cost, costed-right, length-encode, room_for, write_fits}

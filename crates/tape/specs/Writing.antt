@@ -10,7 +10,7 @@ use Rattle.warning.specs.Numbers.{security_octets}
 use Rattle.warning.specs.Rules.{judged}
 use Rattle.tape.specs.declared.fault.WriteFault.{WriteFault}
 use Rattle.tape.specs.declared.fault.WriteFault.TheVariants.{NoWarning, Full}
-use Rattle.tape.specs.declared.write.Output.{Output}
+use Rattle.tape.specs.declared.output.Output.{Output}
 use Rattle.tape.specs.Numbers.{primary_command, message_command}
 use Rattle.tape.specs.Format.{cost, flag_of, pair_octets, pieces, octets_of}
 

@@ -9,8 +9,9 @@ ghost use Rattle.tape.specs.Reading.{place, entry};
 
 use crate::cursor::Cursor;
 use crate::fault::*;
+use crate::output::Output;
 use crate::read::{entry, head, pass_body};
-use crate::sink::{Copied, Judged};
+use crate::sink::Judged;
 use std::alloc::Global;
 use warning::{Outline, WarningBuf};
 
@@ -47,6 +48,6 @@ pub fn copy_entry(tape: &[u8], at: usize, memory: &mut [u8]) -> Result<(Outline,
     let outline = head(&mut cursor)?;
     let mut end = cursor.fork();
     pass_body(&mut end, outline, &mut Judged)?;
-    pass_body(&mut cursor, outline, &mut Copied { memory, at: 0 })?;
+    pass_body(&mut cursor, outline, &mut Output { memory, at: 0 })?;
     Ok((outline, end.offset()))
 }

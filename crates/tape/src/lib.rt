@@ -6,6 +6,7 @@ pub mod fault;
 pub mod heads;
 pub mod numbers;
 mod operands;
+mod output;
 mod read;
 pub mod reader;
 mod sink;

@@ -13,7 +13,8 @@ ghost use Rattle.tape.specs.Reading.{part, most_flag, most_area, entry};
 use crate::cursor::Cursor;
 use crate::fault::*;
 use crate::numbers::*;
-use crate::sink::{Copied, Sink};
+use crate::output::Output;
+use crate::sink::Sink;
 use std::alloc::{AllocError, Global};
 use warning::numbers::*;
 use warning::{Outline, WarningBuf, octet_limit};
@@ -127,7 +128,7 @@ fn fill(cursor: &mut Cursor<'_>, memory: &mut [u8]) -> Result<(), TapeFault>
     ensures { Passed (λ xs. xs) (part (length memory.old) cursor.old) (λ xs. memory.new ≡ xs) result cursor.new }
 {
     let count = memory.len();
-    part(cursor, count, &mut Copied { memory, at: 0 })
+    part(cursor, count, &mut Output { memory, at: 0 })
 }
 
 // The octets of a part, in memory of their own.

@@ -1,9 +1,8 @@
 // Where the octets of a warning go that is read without memory of its own:
 // nowhere, when it is only judged, or to lent memory.
 ghost use Rattle.std.specs.Prelude.{◌≡◌, ℕ, ◌+◌, ◌≤◌, List, [], ◌++◌, length};
-ghost use Rattle.octets.specs.Octets.{written};
 
-use octets::put;
+use crate::output::Output;
 
 pub trait Sink {
     // Whether it has room for a number of octets.
@@ -46,30 +45,25 @@ impl Sink for Judged {
     fn take(&mut self, _octets: &[u8]) {}
 }
 
-// Lent memory, and the place there of the octets that come next.
-#[derive(Drop)]
-pub struct Copied<'m> {
-    pub memory: &'m mut [u8],
-    pub at: usize,
-}
-
-impl<'m> Sink for Copied<'m> {
+// Lent memory that is filled.
+impl<'m> Sink for Output<'m> {
     ghost use Rattle.std.proofs.Common.{arith, length-append, sym, refl, ap, ◌∙◌};
     ghost use Rattle.octets.proofs.Writes.{written_none, length-written, then-written};
+    ghost use Rattle.tape.specs.Writing.{HasPut};
 
     ghost fits = { λ s n. s.at + n ≤ length s.memory.now };
 
-    ghost took = { λ s xs t. (t.memory.ghost_name ≡ s.memory.ghost_name) × (t.at ≡ s.at + length xs) × (t.memory.now ≡ written s.at xs s.memory.now) };
+    ghost took = { HasPut };
 
     ghost fits_less = { λ s m n h k. Prim.omega arith };
 
-    ghost fits_after = { λ s t xs n h k. let l = ap length k.2 ∙ length-written s.memory.now xs s.at (Prim.omega arith) in Prim.omega (arith, l, k.1) };
+    ghost fits_after = { λ s t xs n h k. let l = ap length k.1 ∙ length-written s.memory.now xs s.at (Prim.omega arith) in Prim.omega (arith, l, k.0) };
 
-    ghost takes_none = { λ s. (refl, Prim.omega arith, sym (written_none s.memory.now s.at)) };
+    ghost takes_none = { λ s. (Prim.omega arith, sym (written_none s.memory.now s.at), refl) };
 
-    ghost takes_more = { λ s t u xs ys h k l. (l.0 ∙ k.0, Prim.omega (arith, length-append xs ys, k.1, l.1), then-written s.memory.now t.memory.now u.memory.now xs ys s.at t.at k.2 l.2 k.1 (Prim.omega arith)) };
+    ghost takes_more = { λ s t u xs ys h k l. (Prim.omega (arith, length-append xs ys, k.0, l.0), then-written s.memory.now t.memory.now u.memory.now xs ys s.at t.at k.1 l.1 k.0 (Prim.omega arith), l.2 ∙ k.2) };
 
     fn take(&mut self, octets: &[u8]) {
-        self.at = put(self.memory, self.at, octets);
+        self.put(octets);
     }
 }

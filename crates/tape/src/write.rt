@@ -13,7 +13,7 @@ ghost use Rattle.tape.specs.Promises.{Longest};
 
 use crate::fault::*;
 use crate::numbers::*;
-use octets::put;
+use crate::output::Output;
 use warning::numbers::*;
 use warning::{Outline, Pair, Warning, WarningFault};
 
@@ -72,22 +72,7 @@ fn area_head(area: Option<usize>) -> [u8; 3]
     [u8::from(area.is_some()), a1, a0]
 }
 
-// Lent memory, and the place in it where the next octets go.
-#[derive(Drop)]
-struct Output<'m> {
-    memory: &'m mut [u8],
-    at: usize,
-}
-
 impl Output<'_> {
-    // Octets, which have to fit.
-    fn put(&mut self, octets: &[u8])
-        requires { HasRoom self.old octets.now }
-        ensures { HasPut self.old octets.now self.new }
-    {
-        self.at = put(self.memory, self.at, octets);
-    }
-
     // One data command.
     fn put_piece(&mut self, octets: &[u8])
         requires few { length octets.now ≤ data_octets }

@@ -41,6 +41,6 @@ returns-clause-after c =
     let second = c.in_ok-pass_body-2.ensures in
     let p = place c.args.at (drop c.args.at c.args.tape.now) in
     let done : c.pass_body-2.new.sink.memory.now ≡ copied (entry p) c.args.memory.now
-    = second.2.2 ∙ sym (ap (λ z. copied z c.args.memory.now) (head_read _ _ _ (sym e) ∙ second.1)) in
-    let name = sym second.2.0 in
+    = second.2.1 ∙ sym (ap (λ z. copied z c.args.memory.now) (head_read _ _ _ (sym e) ∙ second.1)) in
+    let name = sym second.2.2 in
     search rules

@@ -1,7 +1,7 @@
 use Rattle.std.proofs.Common.{◌≡◌}
 use Rattle.std.specs.Slice.Iter.{chunks_rest, chunks_size}
 use Rattle.tape.proofs.Puts.{PutSoFar}
-use Rattle.tape.proofs.write.Output.put_part.Given as goal
+use Rattle.tape.proofs.output.Output.put_part.Given as goal
 
 abbrev pub invariant-loop-piece : goal.invariant-loop-piece
 invariant-loop-piece l =

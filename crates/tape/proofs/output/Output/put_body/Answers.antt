@@ -2,7 +2,7 @@ use Rattle.std.proofs.Common.{length-append, ap, ◌∙◌, refl, arith}
 use Rattle.warning.specs.Meaning.{lent}
 use Rattle.tape.specs.Format.{pieces, octets_of}
 use Rattle.tape.proofs.Puts.{now_or, then_put}
-use Rattle.tape.proofs.write.Output.put_body.Goals as goal
+use Rattle.tape.proofs.output.Output.put_body.Goals as goal
 
 pub returns-in-Message : goal.returns-in-Message
 returns-in-Message c =

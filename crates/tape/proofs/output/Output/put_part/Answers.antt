@@ -3,7 +3,7 @@ use Rattle.std.proofs.lemmas.List.{nil_from_length}
 use Rattle.std.specs.Slice.Iter.{chunks_rest}
 use Rattle.tape.proofs.Pieces.{pieces_none}
 use Rattle.tape.proofs.Puts.{so_far_room, so_far_more}
-use Rattle.tape.proofs.write.Output.put_part.Goals as goal
+use Rattle.tape.proofs.output.Output.put_part.Goals as goal
 
 pub put_piece-requires-clause-fit : goal.put_piece-requires-clause-fit
 put_piece-requires-clause-fit c =

@@ -1,7 +1,7 @@
 use Rattle.std.proofs.Common.{[], ◌∷◌, length, arith}
 use Rattle.tape.proofs.Puts.{then_put}
 use Rattle.tape.proofs.Pieces.{length-piece, zeros_past}
-use Rattle.tape.proofs.write.Output.put_piece.Goals as goal
+use Rattle.tape.proofs.output.Output.put_piece.Goals as goal
 
 pub returns : goal.returns
 returns c =
