@@ -10,20 +10,12 @@ use std::alloc::Global;
 use tape::fault::{ReadError, TapeFault};
 use tape::reader::TapeReader;
 
-// How a listing ended.
-#[derive(Clone, Copy, PartialEq, Eq, Debug)]
-pub enum Ending {
-    // all was read; whether it was written back as it was
-    Whole { same: bool },
-    Refused(TapeFault),
-}
-
-// Prints a line for each warning, and answers the fault if the tape is refused.
+// Prints a line for each warning, as far as the tape can be read.
 fn list_entries(
     rt: &impl Print,
     heap: Global,
     reader: &mut TapeReader<'_>,
-) -> anyhow::Result<Option<TapeFault>>
+) -> anyhow::Result<Result<(), TapeFault>>
     ensures tape { whole_tape reader.new ≡ whole_tape reader.old }
     ensures left { IfOk result (Left (stands_at reader.new)) }
 {
@@ -35,22 +27,22 @@ fn list_entries(
                     rt.println(Line::Entry { offset, outline })?;
                 }
             }
-            Ok(None) => return Ok(None),
-            Err(ReadError::Fault(fault)) => return Ok(Some(fault)),
+            Ok(None) => return Ok(Ok(())),
+            Err(ReadError::Fault(fault)) => return Ok(Err(fault)),
             Err(ReadError::Memory) => return Err(anyhow!("no memory to read the tape")),
         }
     }
 }
 
 // Lists a tape, line by line while it is read, then writes it again from what
-// was read, and compares.
-pub fn list(rt: &impl Print, heap: Global, tape: &[u8]) -> anyhow::Result<Ending>
+// was read, and answers whether that is the same, or why the tape is refused.
+pub fn list(rt: &impl Print, heap: Global, tape: &[u8]) -> anyhow::Result<Result<bool, TapeFault>>
     ensures { IfOk result (Listed tape.now) }
 {
     let mut reader = TapeReader::new(heap, tape);
-    if let Some(fault) = list_entries(rt, heap, &mut reader)? {
+    if let Err(fault) = list_entries(rt, heap, &mut reader)? {
         rt.println(Line::Refused(fault))?;
-        return Ok(Ending::Refused(fault));
+        return Ok(Err(fault));
     }
     let Ok(again) = reader.write_back(heap) else {
         return Err(anyhow!("no memory to write the tape"));
@@ -63,5 +55,5 @@ pub fn list(rt: &impl Print, heap: Global, tape: &[u8]) -> anyhow::Result<Ending
         octets,
         same,
     })?;
-    Ok(Ending::Whole { same })
+    Ok(Ok(same))
 }

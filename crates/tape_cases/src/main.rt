@@ -34,7 +34,7 @@ fn list_all(rt: &HostRuntime, heap: Global, input: &[u8]) -> anyhow::Result<()> 
     let mut tapes = Tapes { rest: input };
     for (n, tape) in tapes.by_ref().enumerate() {
         println!(rt; "tape {n}")?;
-        list(rt, heap, tape)?;
+        let _ = list(rt, heap, tape)?;
     }
     if tapes.rest.is_empty() {
         Ok(())

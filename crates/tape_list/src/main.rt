@@ -8,7 +8,8 @@ fn run(rt: &HostRuntime) -> anyhow::Result<()> {
     let heap = rt.alloc();
     let mut tape = Vec::new(heap);
     rt.stdin().read_to_end(&mut tape)?;
-    list(rt, heap, tape.as_slice())?;
+    // its last line says how it ended
+    let _ = list(rt, heap, tape.as_slice())?;
     Ok(())
 }
 
