@@ -3,7 +3,7 @@ use Rattle.std.specs.Prelude.{◌≡◌, ℕ, ◌<◌, ◌≤◌, true, false, �
 use Rattle.std.specs.Option.{option_map, unwrap_or}
 use Rattle.std.proofs.Common.{⊎_elim, refl, ap, arith}
 use Rattle.std.proofs.lemmas.Bool.{cases_lt, lt-ltb, le-ltb, and_left, and_right}
-use Rattle.store.specs.declared.Lengths.{Lengths}
+use Rattle.store.specs.declared.Segment.{Segment}
 use Rattle.store.specs.Meaning.{Content, Held, Placed, Lawful, standing, count_of, paid, slot_units, units}
 use Rattle.store.specs.Numbers.{number_count, most_octets}
 use Rattle.store.specs.Outcomes.{index}
@@ -44,7 +44,7 @@ held_at bs slot n i t =
     let e : nat_lt n number_count ≡ true = lt-ltb _ _ t.few in
     rw (d, e, t.is)
 
-placed_lies : (o : Option Lengths) (xs : List ℕ) (slot n : ℕ) → slot < slot_count → n < number_count → length xs ≡ berth_octets → unwrap_or (option_map count_of o) 0 ≤ most_octets → Placed berths_shape slot n (option_map (λ l. standing l xs) o)
+placed_lies : (o : Option (Segment ℕ)) (xs : List ℕ) (slot n : ℕ) → slot < slot_count → n < number_count → length xs ≡ berth_octets → unwrap_or (option_map count_of o) 0 ≤ most_octets → Placed berths_shape slot n (option_map (λ l. standing l xs) o)
 placed_lies None xs slot n low few full short = tt
 placed_lies (Some l) xs slot n low few full short = let c = ap count_of (lengths_standing l xs (omega arith)) in (low, few, omega arith)
 

@@ -41,14 +41,14 @@ impl Berth {
     }
 
     // The segment that is held, if there is one.
-    pub fn segment(&self) -> Option<Segment<'_>>
+    pub fn segment(&self) -> Option<Segment<&[u8]>>
         ensures { option_map content result ≡ lies self.now }
     {
         self.lengths.map(|lengths| lengths.segment_in(&self.octets))
     }
 
     // Holds a segment from now on.
-    pub fn lay(&mut self, segment: Segment<'_>)
+    pub fn lay(&mut self, segment: Segment<&[u8]>)
         requires { count (content segment) ≤ most_octets }
         ensures { lies self.new ≡ Some (content segment.entry) }
     {

@@ -32,7 +32,7 @@ impl Berths {
 
     // The segment that is held at a place, if there is one.
     #[tactic(auto, using(crate::proofs::Rows::found_at))]
-    fn find(&self, place: Place) -> Result<Option<Segment<'_>>, StoreFault>
+    fn find(&self, place: Place) -> Result<Option<Segment<&[u8]>>, StoreFault>
         ensures { result_map_both (option_map content) (λ f. f) result ≡ at_place berths_shape place.slot place.number (Ok (holding self.now place.slot place.number)) }
     {
         let i = place.index(SLOTS)?;
@@ -40,7 +40,7 @@ impl Berths {
     }
 
     // The segment that is held at a place, where none is refused.
-    fn look_up(&self, place: Place) -> Result<Segment<'_>, StoreFault>
+    fn look_up(&self, place: Place) -> Result<Segment<&[u8]>, StoreFault>
         ensures { result_map_both content (λ f. f) result ≡ look_up berths_shape (holding self.now) place.slot place.number }
     {
         self.find(place)?.ok_or(StoreFault::NotHeld)
@@ -85,7 +85,7 @@ impl Store for Berths {
     ghost placed = { λ s slot number. all_placed s.berths slot number };
 
     #[tactic(auto, using(crate::proofs::Puts::taken_at, crate::proofs::Puts::room_at, crate::proofs::Puts::laid_at))]
-    fn put(&mut self, place: Place, segment: Segment<'_>) -> Result<(), StoreFault> {
+    fn put(&mut self, place: Place, segment: Segment<&[u8]>) -> Result<(), StoreFault> {
         let i = place.index(SLOTS)?;
         check_octets(segment.octet_count())?;
         check_vacant(self.berths[i].is_taken())?;
@@ -135,7 +135,7 @@ impl Store for Berths {
         Ok(self.look_up(place)?.lengths())
     }
 
-    fn equals(&self, place: Place, segment: Segment<'_>) -> Result<bool, StoreFault> {
+    fn equals(&self, place: Place, segment: Segment<&[u8]>) -> Result<bool, StoreFault> {
         Ok(self.look_up(place)? == segment)
     }
 

@@ -3,7 +3,7 @@ use Rattle.std.specs.Prelude.{◌≡◌, ℕ, ◌<◌, ◌≤◌, true, false, �
 use Rattle.std.proofs.Common.{⊎_elim, arith}
 use Rattle.std.proofs.lemmas.List.{length-take}
 use Rattle.std.proofs.lemmas.Bool.{cases_lt, lt-ltb, le-ltb, and_right, and_left}
-use Rattle.store.specs.declared.Lengths.{Lengths}
+use Rattle.store.specs.declared.Segment.{Segment}
 use Rattle.store.specs.Meaning.{Placed, Lawful, standing, count, count_of}
 use Rattle.store.specs.Numbers.{number_count}
 use Rattle.store.specs.Outcomes.{index}
@@ -29,7 +29,7 @@ held_at octets next ps slot n i t =
     rw (d, e, t.is)
 
 -- a segment in octets has at most the lengths that it is looked for with
-count-standing : (l : Lengths) (xs : List ℕ) → count (standing l xs) ≤ count_of l
+count-standing : (l : Segment ℕ) (xs : List ℕ) → count (standing l xs) ≤ count_of l
 count-standing l xs = of l.message l.area
   where
     of : (m : ℕ) (a : Option ℕ) → count (standing (record { message = m; area = a }) xs) ≤ count_of (record { message = m; area = a })

@@ -70,7 +70,7 @@ impl Pool {
     }
 
     // Puts a segment into the first free blocks.
-    fn fill(&mut self, slot: usize, number: usize, segment: Segment<'_>)
+    fn fill(&mut self, slot: usize, number: usize, segment: Segment<&[u8]>)
         requires low { slot < slot_count }
         requires few { number < number_count }
         requires short { count (content segment) ≤ most_octets }
@@ -130,7 +130,7 @@ impl Store for Pool {
     ghost placed = { λ s slot number. all_placed (parts s.chains) (links s.chains) s.places slot number };
 
     #[tactic(auto, using(crate::proofs::Found::taken_at, crate::proofs::Found::vacant_at))]
-    fn put(&mut self, place: Place, segment: Segment<'_>) -> Result<(), StoreFault> {
+    fn put(&mut self, place: Place, segment: Segment<&[u8]>) -> Result<(), StoreFault> {
         let i = place.index(SLOTS)?;
         let count = segment.octet_count();
         check_octets(count)?;
@@ -184,7 +184,7 @@ impl Store for Pool {
     }
 
     #[tactic(auto, using(crate::proofs::Found::standing_gathered))]
-    fn equals(&self, place: Place, segment: Segment<'_>) -> Result<bool, StoreFault> {
+    fn equals(&self, place: Place, segment: Segment<&[u8]>) -> Result<bool, StoreFault> {
         let stored = self.look_up(place)?;
         let count = stored.lengths.count();
         let mut joined = [0u8; MOST_OCTETS];

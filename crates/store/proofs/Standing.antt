@@ -3,7 +3,7 @@ use Rattle.std.proofs.Common.{◌≡◌, ℕ, ◌+◌, ◌≤◌, List, [], ◌+
 use Rattle.std.proofs.lemmas.List.{take_at, drop_at, append_assoc, append-nil, length-append, length-take-le, length-drop}
 use Rattle.octets.specs.Octets.{written}
 use Rattle.octets.proofs.Writes.{written-written}
-use Rattle.store.specs.declared.Lengths.{Lengths}
+use Rattle.store.specs.declared.Segment.{Segment}
 use Rattle.store.specs.Outcomes.{copied}
 use Rattle.store.specs.Meaning.{Content, octets, area_octets, lengths_of, count, count_of, standing, spread}
 
@@ -23,7 +23,7 @@ length-octets seg = of seg.message seg.area
     of m (Some a) = length-append m a
 
 -- a segment in enough octets has its lengths
-pub lengths_standing : (l : Lengths) (xs : List ℕ) → count_of l ≤ length xs → lengths_of (standing l xs) ≡ l
+pub lengths_standing : (l : Segment ℕ) (xs : List ℕ) → count_of l ≤ length xs → lengths_of (standing l xs) ≡ l
 lengths_standing l xs h = of l.message l.area h
   where
     of : (m : ℕ) (a : Option ℕ) → count_of (record { message = m; area = a }) ≤ length xs → lengths_of (standing (record { message = m; area = a }) xs) ≡ record { message = m; area = a }
@@ -35,7 +35,7 @@ lengths_standing l xs h = of l.message l.area h
         rw (t, u)
 
 -- its octets are the first ones
-pub octets-standing : (l : Lengths) (xs : List ℕ) → count_of l ≤ length xs → octets (standing l xs) ≡ take (count_of l) xs
+pub octets-standing : (l : Segment ℕ) (xs : List ℕ) → count_of l ≤ length xs → octets (standing l xs) ≡ take (count_of l) xs
 octets-standing l xs h = of l.message l.area h
   where
     of : (m : ℕ) (a : Option ℕ) → count_of (record { message = m; area = a }) ≤ length xs → octets (standing (record { message = m; area = a }) xs) ≡ take (count_of (record { message = m; area = a })) xs
@@ -46,13 +46,13 @@ octets-standing l xs h = of l.message l.area h
         sym cut
 
 -- copying a segment that stands in the octets
-pub copied-standing : (o : Option Content) (l : Lengths) (n k : ℕ) (xs m m' : List ℕ) → o ≡ Some (standing l xs) → count_of l ≤ length xs → n ≡ count_of l → k ≡ n → m' ≡ written 0 (take k xs) m → m' ≡ copied o m
+pub copied-standing : (o : Option Content) (l : Segment ℕ) (n k : ℕ) (xs m m' : List ℕ) → o ≡ Some (standing l xs) → count_of l ≤ length xs → n ≡ count_of l → k ≡ n → m' ≡ written 0 (take k xs) m → m' ≡ copied o m
 copied-standing o l n k xs m m' e h c d f =
     let w : take k xs ≡ octets (standing l xs) = ap (λ z. take z xs) (d ∙ c) ∙ sym (octets-standing l xs h) in
     rw e (f ∙ ap (λ z. written 0 z m) w)
 
 -- the octets of a segment, written to the start of a memory: the same segment stands there
-pub standing-written : (l : Lengths) (n : ℕ) (xs ys m m' : List ℕ) → n ≡ count_of l → ys ≡ xs → count_of l ≤ length xs → m' ≡ written 0 (take n ys) m → standing l m' ≡ standing l xs
+pub standing-written : (l : Segment ℕ) (n : ℕ) (xs ys m m' : List ℕ) → n ≡ count_of l → ys ≡ xs → count_of l ≤ length xs → m' ≡ written 0 (take n ys) m → standing l m' ≡ standing l xs
 standing-written l n xs ys m m' c e h f =
     let seg = standing l xs in
     let o : take n ys ≡ octets seg = ap (λ z. take z ys) c ∙ ap (take (count_of l)) e ∙ sym (octets-standing l xs h) in

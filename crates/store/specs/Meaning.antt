@@ -1,21 +1,23 @@
 -- What a store means: the segments that it holds, by slot and number, and its shape.
 use Rattle.std.specs.Prelude.{◌≡◌, ℕ, zero, suc, ◌+◌, ◌-◌, ◌*◌, ◌<◌, ◌≤◌, Bool, true, false, cond, ◌&&◌, List, [], ◌++◌, length, take, drop, Some, None, Option, ◌==◌, slice_index}
+use Rattle.std.specs.Borrow.{Bor}
 use Rattle.std.specs.Option.{option_map, unwrap_or}
 use Rattle.std.specs.Str.{bytes_eq}
 use Rattle.octets.specs.Octets.{written}
-use Rattle.warning.specs.Meaning.{lent}
-use Rattle.store.specs.declared.Lengths.{Lengths}
 use Rattle.store.specs.declared.Segment.{Segment}
 use Rattle.store.specs.Numbers.{number_count, most_octets}
 
 -- what a segment is: message octets, and area octets that may be absent
-pub record Content : Type 0 where
-  pub message : List ℕ
-  pub area : Option (List ℕ)
+abbrev pub Content : Type 0
+Content = Segment (List ℕ)
+
+-- the same segment, each part of it turned into something else
+abbrev pub with_parts : {A B : Type 0} → (A → B) → Segment A → Segment B
+with_parts turned segment = record { message = turned segment.message; area = option_map turned segment.area }
 
 -- what a segment of the code is, whoever lends its octets
-abbrev pub content : Segment → Content
-content segment = record { message = segment.message.now; area = lent segment.area }
+abbrev pub content : Segment (Bor (List ℕ)) → Content
+content = with_parts (λ octets. octets.now)
 
 -- an absent area has no octets
 abbrev pub area_octets : Option (List ℕ) → List ℕ
@@ -25,18 +27,19 @@ area_octets area = unwrap_or area []
 abbrev pub octets : Content → List ℕ
 octets seg = seg.message ++ area_octets seg.area
 
-abbrev pub lengths_of : Content → Lengths
-lengths_of seg = record { message = length seg.message; area = option_map length seg.area }
+-- a segment without its octets: their lengths stand in their place
+abbrev pub lengths_of : Content → Segment ℕ
+lengths_of = with_parts length
 
 -- message and area octets together
-abbrev pub count_of : Lengths → ℕ
+abbrev pub count_of : Segment ℕ → ℕ
 count_of l = l.message + unwrap_or l.area 0
 
 abbrev pub count : Content → ℕ
 count seg = count_of (lengths_of seg)
 
 -- the segment of these lengths that stands at the start of the octets
-abbrev pub standing : Lengths → List ℕ → Content
+abbrev pub standing : Segment ℕ → List ℕ → Content
 standing l octets = record { message = take l.message octets; area = option_map (λ a. take a (drop l.message octets)) l.area }
 
 -- memory with the message at its start and the area after it

@@ -1,7 +1,7 @@
 -- What each call of a store answers: the first refusal in the order of the checks, or the answer.
 use Rattle.std.specs.Prelude.{ℕ, ◌+◌, ◌*◌, Bool, cond, List, is_some, Some, None, Ok, Err, Option, Result, nat_le, nat_lt}
 use Rattle.octets.specs.Octets.{written}
-use Rattle.store.specs.declared.Lengths.{Lengths}
+use Rattle.store.specs.declared.Segment.{Segment}
 use Rattle.store.specs.declared.StoreFault.{StoreFault}
 use Rattle.store.specs.declared.StoreFault.TheVariants.{NoSlot, NoNumber, TooLong, Occupied, NotHeld, NoUnits, Memory}
 use Rattle.store.specs.Meaning.{Content, Held, Shape, octets, count, same, lengths_of, slot_units, units_free}
@@ -47,7 +47,7 @@ units_outcome shape h slot = at_slot shape slot (Ok (slot_units shape.cost h slo
 abbrev pub held_outcome : Shape → Held → ℕ → ℕ → Result Bool StoreFault
 held_outcome shape h slot number = at_place shape slot number (Ok (is_some (h slot number)))
 
-abbrev pub lengths_outcome : Shape → Held → ℕ → ℕ → Result Lengths StoreFault
+abbrev pub lengths_outcome : Shape → Held → ℕ → ℕ → Result (Segment ℕ) StoreFault
 lengths_outcome shape h slot number = at_place shape slot number (where_held (h slot number) (λ seg. Ok (lengths_of seg)))
 
 abbrev pub equals_outcome : Shape → Held → ℕ → ℕ → Content → Result Bool StoreFault

@@ -56,19 +56,16 @@ pub struct Place {
     pub number: u8,
 }
 
-// A segment whose octets are borrowed: the message, and the area where there is one.
-#[derive(Clone, Copy, PartialEq, Eq, Debug)]
-pub struct Segment<'a> {
-    pub message: &'a [u8],
-    pub area: Option<&'a [u8]>,
+// A segment: the message, and the area where there is one. Its parts are
+// octets that it borrows or owns, or their lengths.
+#[derive(Clone, Copy, PartialEq, Eq, Debug, Drop)]
+pub struct Segment<T> {
+    pub message: T,
+    pub area: Option<T>,
 }
 
-// The lengths of a segment: of the message, and of the area where there is one.
-#[derive(Clone, Copy, PartialEq, Eq, Debug)]
-pub struct Lengths {
-    pub message: usize,
-    pub area: Option<usize>,
-}
+// A segment without its octets: lengths stand in their place.
+pub type Lengths = Segment<usize>;
 
 // Keeps the octets of segments by slot and number.
 pub trait Store {
@@ -79,7 +76,7 @@ pub trait Store {
     ghost shape: { Self → Shape };
 
     // Puts a segment where none is held.
-    fn put(&mut self, place: Place, segment: Segment<'_>) -> Result<(), StoreFault>
+    fn put(&mut self, place: Place, segment: Segment<&[u8]>) -> Result<(), StoreFault>
         ensures value { result ≡ put_outcome (shape self.old) (held self.old) place.slot place.number (content segment.entry) }
         ensures after { held self.new ≡ (if is_ok result then with_segment (held self.old) place.slot place.number (content segment.entry) else held self.old) }
         ensures same { shape self.new ≡ shape self.old };
@@ -124,7 +121,7 @@ pub trait Store {
         ensures { result ≡ lengths_outcome (shape self.now) (held self.now) place.slot place.number };
 
     // Whether a segment that is held equals the given one.
-    fn equals(&self, place: Place, segment: Segment<'_>) -> Result<bool, StoreFault>
+    fn equals(&self, place: Place, segment: Segment<&[u8]>) -> Result<bool, StoreFault>
         ensures { result ≡ equals_outcome (shape self.now) (held self.now) place.slot place.number (content segment.entry) };
 
     // Copies a segment that is held to the start of the memory, the message

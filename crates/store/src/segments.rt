@@ -5,7 +5,7 @@ ghost use Rattle.store.specs.Meaning.{content, count, count_of, lengths_of, same
 use crate::{Lengths, Segment};
 use octets::put;
 
-impl Segment<'_> {
+impl Segment<&[u8]> {
     // Message and area octets together.
     pub fn octet_count(self) -> usize
         ensures { result ≡ count (content self.entry) }
@@ -16,7 +16,7 @@ impl Segment<'_> {
     pub fn lengths(self) -> Lengths
         ensures { result ≡ lengths_of (content self.entry) }
     {
-        Lengths {
+        Segment {
             message: self.message.len(),
             area: self.area.map(|octets| octets.len()),
         }
@@ -42,7 +42,7 @@ impl Lengths {
     }
 
     // The segment of these lengths that stands at the start of the octets.
-    pub fn segment_in(self, octets: &[u8]) -> Segment<'_>
+    pub fn segment_in(self, octets: &[u8]) -> Segment<&[u8]>
         requires { count_of self ≤ length octets.now }
         ensures { content result ≡ standing self octets.now }
     {
@@ -56,7 +56,7 @@ impl Lengths {
 
     // Whether the segment of these lengths that stands at the start of the
     // octets equals the given one.
-    pub fn equals(self, octets: &[u8], segment: Segment<'_>) -> bool
+    pub fn equals(self, octets: &[u8], segment: Segment<&[u8]>) -> bool
         requires { count_of self ≤ length octets.now }
         ensures { result ≡ same (standing self octets.now) (content segment.entry) }
     {

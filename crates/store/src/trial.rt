@@ -8,8 +8,8 @@ use crate::{Place, Segment, Store, StoreFault};
 fn put_two<S: Store>(
     store: &mut S,
     slot: usize,
-    first: Segment<'_>,
-    second: Segment<'_>,
+    first: Segment<&[u8]>,
+    second: Segment<&[u8]>,
 ) -> Result<(), StoreFault>
     ensures value { result ≡ two_outcome (S.shape store.old) (S.held store.old) slot (content first.entry) (content second.entry) }
     ensures rest { without_slot (S.held store.new) slot ≡ without_slot (S.held store.old) slot }
@@ -24,8 +24,8 @@ fn put_two<S: Store>(
 pub fn try_two<S: Store>(
     store: &mut S,
     slot: usize,
-    first: Segment<'_>,
-    second: Segment<'_>,
+    first: Segment<&[u8]>,
+    second: Segment<&[u8]>,
 ) -> Result<(), StoreFault>
     ensures value { result ≡ two_outcome (S.shape store.old) (S.held store.old) slot (content first.entry) (content second.entry) }
     ensures back { Empty (S.held store.old) slot → S.held store.new ≡ S.held store.old }

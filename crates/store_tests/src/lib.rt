@@ -13,14 +13,14 @@ mod tests {
         Place { slot, number }
     }
 
-    fn alone(message: &[u8]) -> Segment<'_> {
+    fn alone(message: &[u8]) -> Segment<&[u8]> {
         Segment {
             message,
             area: None,
         }
     }
 
-    fn both<'a>(message: &'a [u8], area: &'a [u8]) -> Segment<'a> {
+    fn both<'a>(message: &'a [u8], area: &'a [u8]) -> Segment<&'a [u8]> {
         Segment {
             message,
             area: Some(area),
