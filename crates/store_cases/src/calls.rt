@@ -66,7 +66,7 @@ impl fmt::Display for Answer {
             Answer::Count(count) => write!(f, "ok {count}"),
             Answer::Truth(true) => write!(f, "ok yes"),
             Answer::Truth(false) => write!(f, "ok no"),
-            Answer::Lengths(Lengths { message, area }) => {
+            Answer::Lengths(Segment { message, area }) => {
                 write!(f, "ok {message} {}", PartLength(*area))
             }
         }
@@ -83,7 +83,7 @@ fn read_sample(words: &mut SplitWhitespace<'_>) -> Option<Sample> {
     let message = words.next()?.parse().ok()?;
     let PartLength(area) = words.next()?.parse().ok()?;
     let seed = words.next()?.parse().ok()?;
-    let lengths = Lengths { message, area };
+    let lengths = Segment { message, area };
     Some(Sample { lengths, seed })
 }
 
@@ -107,29 +107,25 @@ pub fn read_call(words: &mut SplitWhitespace<'_>) -> Option<Call> {
     Some(call)
 }
 
-// The octets of a sample.
-#[derive(Drop)]
-struct Octets {
-    message: Vec<u8>,
-    area: Option<Vec<u8>>,
+// A segment with its own octets.
+type SegmentBuf = Segment<Vec<u8>>;
+
+// The segment of a sample.
+fn sampled(heap: Global, sample: Sample) -> Result<SegmentBuf, AllocError> {
+    let Sample { lengths, seed } = sample;
+    let area = match lengths.area {
+        Some(count) => Some(pattern(heap, seed % 256 + AREA_SEED, count)?),
+        None => None,
+    };
+    let message = pattern(heap, seed, lengths.message)?;
+    Ok(Segment { message, area })
 }
 
-impl Octets {
-    fn new(heap: Global, sample: Sample) -> Result<Octets, AllocError> {
-        let Sample { lengths, seed } = sample;
-        let area = match lengths.area {
-            Some(count) => Some(pattern(heap, seed % 256 + AREA_SEED, count)?),
-            None => None,
-        };
-        let message = pattern(heap, seed, lengths.message)?;
-        Ok(Octets { message, area })
-    }
-
-    fn segment(&self) -> Segment<'_> {
-        Segment {
-            message: self.message.as_slice(),
-            area: self.area.as_deref(),
-        }
+// The same segment, with borrowed octets.
+fn as_segment(segment: &SegmentBuf) -> Segment<&[u8]> {
+    Segment {
+        message: segment.message.as_slice(),
+        area: segment.area.as_deref(),
     }
 }
 
@@ -149,8 +145,8 @@ fn copied_sum<S: Store>(
 pub fn perform<S: Store>(heap: Global, store: &mut S, call: Call) -> Result<Answer, CallError> {
     let answer = match call {
         Call::Put(place, sample) => {
-            let octets = Octets::new(heap, sample)?;
-            store.put(place, octets.segment())?;
+            let segment = sampled(heap, sample)?;
+            store.put(place, as_segment(&segment))?;
             Answer::Done
         }
         Call::DropSlot(slot) => {
@@ -169,8 +165,8 @@ pub fn perform<S: Store>(heap: Global, store: &mut S, call: Call) -> Result<Answ
         Call::IsHeld(place) => Answer::Truth(store.is_held(place)?),
         Call::Lengths(place) => Answer::Lengths(store.lengths(place)?),
         Call::Equals(place, sample) => {
-            let octets = Octets::new(heap, sample)?;
-            Answer::Truth(store.equals(place, octets.segment())?)
+            let segment = sampled(heap, sample)?;
+            Answer::Truth(store.equals(place, as_segment(&segment))?)
         }
         Call::CopyOut(place, length) => Answer::Count(copied_sum(heap, store, place, length)?),
     };

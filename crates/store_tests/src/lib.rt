@@ -7,7 +7,7 @@ mod tests {
     use pool::Pool;
     use std::process::Abort;
     use store::trial::try_two;
-    use store::{Lengths, Place, Segment, Store, StoreFault};
+    use store::{Place, Segment, Store, StoreFault};
 
     fn at(slot: usize, number: u8) -> Place {
         Place { slot, number }
@@ -102,14 +102,14 @@ mod tests {
         assert_eq!(rt; store.units_of(1), Ok(2));
         assert_eq!(rt;
             store.lengths(at(1, 5)),
-            Ok(Lengths {
+            Ok(Segment {
                 message: 0,
                 area: None,
             })
         );
         assert_eq!(rt;
             store.lengths(at(1, 6)),
-            Ok(Lengths {
+            Ok(Segment {
                 message: 0,
                 area: Some(0),
             })
