@@ -53,6 +53,7 @@ impl Expiry {
 }
 
 // Where the key stands.
+// Kept: a slice and a key are the two arguments of a search; a struct of both would be made for one call.
 pub fn find<K: Key>(xs: &[Entry<K>], key: &K) -> Option<usize>
     ensures value { result ≡ place K.eq key.now xs.now }
     ensures found { Found key.now xs.now result }
@@ -86,6 +87,7 @@ pub fn count_of_group<K: Key>(xs: &[Entry<K>], key: &K) -> usize
 }
 
 // Stores an entry as the newest, in the last place of the slice, which is free.
+// Kept: that there is a place is asked in a clause, since the type of a slice has no length.
 pub fn store<K: Key>(xs: &mut [Entry<K>], entry: Entry<K>)
     requires { 0 < length xs.old }
     ensures { xs.new ≡ stored_last entry (take (length xs.old - 1) xs.old) }
@@ -120,7 +122,7 @@ pub fn expire<K: Key>(xs: &mut [Entry<K>], expiry: Expiry) -> usize
     ensures after { take (length xs.old - result) xs.new ≡ left expiry xs.old }
 {
     let mut went = 0;
-    // Kept: a loop that tests each age and counts what goes was asked for; an iterator would hold the slice that it writes.
+    // Kept: a loop that tests each age and counts what goes is a rule of the project; an iterator would hold the slice that it writes.
     for i in 0..xs.len() {
         let entry = xs[i];
         if expiry.takes(&entry) {

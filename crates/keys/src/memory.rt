@@ -54,7 +54,7 @@ fn make_room<K: Key>(xs: &mut [Entry<K>], count: usize, most: usize, key: &K) ->
 
 // Remembers a key with its clock in the first `count` entries of a memory, and changes the count.
 // The slice is all the memory has: its length is the capacity.
-// Kept: the array was asked to be lent as a slice of entries, so the count comes beside it.
+// Kept: by a rule of the project the array is lent as a slice of entries, so the count comes beside it.
 pub fn remember<K: Key>(
     xs: &mut [Entry<K>],
     count: &mut usize,

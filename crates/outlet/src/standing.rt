@@ -15,6 +15,7 @@ use warning::numbers::*;
 use warning::{Outline, Warning};
 
 // Refuses a buffer that is too short for some warning.
+// Kept: a store checks its memory likewise, but each layer has a fault type of its own.
 pub fn check_buffer(buffer: &[u8]) -> Result<(), OutletFault>
     ensures { result ≡ into_buffer (length buffer.now) (Ok tt) }
 {

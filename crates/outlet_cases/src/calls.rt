@@ -1,7 +1,7 @@
 // Outlet calls as lines of text, and their answers.
 use outlet::{Outlet, OutletFault};
 use samples::part::PartLength;
-use samples::{AREA_SEED, UNTOUCHED, pattern, weighted_sum};
+use samples::{AREA_SEED, UNTOUCHED, optional_pattern, pattern, weighted_sum};
 use std::alloc::{AllocError, Global};
 use std::fmt;
 use std::str::SplitWhitespace;
@@ -44,6 +44,7 @@ pub enum Answer {
 }
 
 // Why a call has no answer.
+// Kept: a `From` of another crate's fault can stand only beside the enum that it makes.
 #[derive(Drop)]
 pub enum CallError {
     Refused(Refusal),
@@ -199,17 +200,6 @@ pub fn read_request(line: &str) -> Option<Request> {
     match words.next() {
         Some(_) => None,
         None => Some(request),
-    }
-}
-
-fn optional_pattern(
-    heap: Global,
-    seed: usize,
-    count: Option<usize>,
-) -> Result<Option<Vec<u8>>, AllocError> {
-    match count {
-        Some(count) => Ok(Some(pattern(heap, seed, count)?)),
-        None => Ok(None),
     }
 }
 

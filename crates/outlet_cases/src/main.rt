@@ -25,6 +25,7 @@ fn answer_line(
     }
 }
 
+// Kept: a loop for both programs would take a closure and have the same match.
 fn main(rt: HostRuntime) -> io::Result<()> {
     let heap = rt.alloc();
     let mut rack = Rack::new();

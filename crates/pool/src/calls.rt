@@ -70,6 +70,7 @@ impl Pool {
     }
 
     // Puts a segment into the first free blocks.
+    // Kept: that the slot is there is asked of private functions alone, which have it from `Place::index` or `check_slot`.
     fn fill(&mut self, slot: usize, number: usize, segment: Segment<&[u8]>)
         requires low { slot < slot_count }
         requires few { number < number_count }

@@ -2,7 +2,8 @@
 // in, and one number for what came out.
 #![tactic(auto)]
 
-ghost use Rattle.std.specs.Prelude.{◌≡◌, IfOk};
+ghost use Rattle.std.specs.Prelude.{◌≡◌, IfOk, vec_items};
+ghost use Rattle.std.specs.Option.{option_map};
 ghost use Rattle.samples.specs.Samples.{octet_at, pattern, weighted_sum};
 
 pub mod part;
@@ -29,6 +30,21 @@ pub fn pattern(heap: Global, seed: usize, count: usize) -> Result<Vec<u8>, Alloc
     (0..count).map(|i| octet_at(seed, i)).collect(heap)
 }
 
+// The same for a part that may be absent.
+pub fn optional_pattern(
+    heap: Global,
+    seed: usize,
+    count: Option<usize>,
+) -> Result<Option<Vec<u8>>, AllocError>
+    ensures { IfOk result (λ part. option_map (λ v. vec_items v) part ≡ option_map (pattern seed) count) }
+{
+    // Kept: a closure that allocates cannot be mapped over an `Option`.
+    match count {
+        Some(count) => Ok(Some(pattern(heap, seed, count)?)),
+        None => Ok(None),
+    }
+}
+
 // One number that depends on each octet and its place.
 pub fn weighted_sum(memory: &[u8]) -> usize
     ensures { result ≡ weighted_sum memory.now }
@@ -42,7 +58,7 @@ pub fn weighted_sum(memory: &[u8]) -> usize
 
 #[cfg(test)]
 mod tests {
-    use super::{pattern, weighted_sum};
+    use super::{optional_pattern, pattern, weighted_sum};
 
     #[test]
     fn octets_of_a_pattern(rt: HostRuntime) {
@@ -54,5 +70,7 @@ mod tests {
         assert_eq!(rt; octets.len(), 34);
         assert_eq!(rt; octets.as_slice()[33], 226);
         assert_eq!(rt; weighted_sum(&octets.as_slice()[0..3]), 276);
+        assert!(rt; matches!(optional_pattern(rt.alloc(), 1, None), Ok(None)));
+        assert!(rt; matches!(optional_pattern(rt.alloc(), 1, Some(2)), Ok(Some(_))));
     }
 }

@@ -1,6 +1,6 @@
 // Store calls as lines of text, and their answers.
 use samples::part::PartLength;
-use samples::{AREA_SEED, UNTOUCHED, pattern, weighted_sum};
+use samples::{AREA_SEED, UNTOUCHED, optional_pattern, pattern, weighted_sum};
 use std::alloc::{AllocError, Global};
 use std::fmt;
 use std::str::SplitWhitespace;
@@ -41,6 +41,7 @@ pub enum Answer {
 }
 
 // Why a call has no answer.
+// Kept: a `From` of another crate's fault can stand only beside the enum that it makes.
 #[derive(Drop)]
 pub enum CallError {
     Refused(Refusal),
@@ -113,11 +114,8 @@ type SegmentBuf = Segment<Vec<u8>>;
 // The segment of a sample.
 fn sampled(heap: Global, sample: Sample) -> Result<SegmentBuf, AllocError> {
     let Sample { lengths, seed } = sample;
-    let area = match lengths.area {
-        Some(count) => Some(pattern(heap, seed % 256 + AREA_SEED, count)?),
-        None => None,
-    };
     let message = pattern(heap, seed, lengths.message)?;
+    let area = optional_pattern(heap, seed % 256 + AREA_SEED, lengths.area)?;
     Ok(Segment { message, area })
 }
 

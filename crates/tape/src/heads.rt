@@ -17,6 +17,7 @@ use warning::{Outline, WarningBuf};
 
 // Reads the head of the warning at an offset: its outline, and the offset
 // after the head.
+// Kept: a caller has a tape and an offset; a struct of both would be made for one call.
 pub fn read_head(tape: &[u8], at: usize) -> Result<(Outline, usize), TapeFault>
     ensures value { result ≡ answered (λ o. o) (head (place at (drop at tape.now))) }
     ensures parts { HeadThenBody }

@@ -91,6 +91,7 @@ fn part<S: Sink>(cursor: &mut Cursor<'_>, count: usize, sink: &mut S) -> Result<
     requires { S.fits sink.old count }
     ensures { Passed (λ xs. xs) (part count cursor.old) (λ xs. S.took sink.old xs sink.new) result cursor.new }
 {
+    // Kept: by number, since there are no octets to cut into pieces before they are read.
     for command in 0..count.div_ceil(DATA_OCTETS) {
         let left = count - command * DATA_OCTETS;
         let octets = cursor.data(left.min(DATA_OCTETS))?;
@@ -100,6 +101,7 @@ fn part<S: Sink>(cursor: &mut Cursor<'_>, count: usize, sink: &mut S) -> Result<
 }
 
 // The body of a warning whose outline is given: its octets are handed on.
+// Kept: that the outline is one of a warning is asked of private functions alone, which have it from `head` or `judge`.
 pub fn pass_body<S: Sink>(
     cursor: &mut Cursor<'_>,
     outline: Outline,
@@ -132,6 +134,7 @@ fn fill(cursor: &mut Cursor<'_>, memory: &mut [u8]) -> Result<(), TapeFault>
 }
 
 // The octets of a part, in memory of their own.
+// Kept: the heap and a cursor are used apart; a cursor needs no heap.
 fn part_buf(heap: Global, cursor: &mut Cursor<'_>, count: usize) -> Result<Vec<u8>, ReadError>
     ensures { Agrees vec_items (part count cursor.old) result cursor.new }
 {
@@ -149,6 +152,7 @@ fn security_buf(
     requires { unwrap_or security 0 ≤ length octets.now }
     ensures { IfOk result (λ x. kept x ≡ option_map (λ n. take n octets.now) security) }
 {
+    // Kept: a closure that allocates cannot be mapped over an `Option`.
     match security {
         Some(count) => Ok(Some(Vec::from_slice(heap, &octets[..count])?)),
         None => Ok(None),

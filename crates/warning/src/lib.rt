@@ -48,6 +48,7 @@ impl TryFrom<u8> for Radio {
 
 // A warning: either a primary or a message. Its parts are octets that it
 // borrows or owns, or their lengths.
+// Kept: a block is a number, since one that carries no message is refused with its value.
 #[derive(Clone, Copy, PartialEq, Eq, Debug, Drop)]
 pub enum Warning<T> {
     Primary {
@@ -84,6 +85,7 @@ pub enum WarningFault {
 }
 
 // What a refusal tells: its number, and the values that come with it.
+// Kept: the number is that of the rules, which a host is told; the kinds are the faults.
 #[derive(Clone, Copy, PartialEq, Eq, Debug)]
 pub struct Refusal {
     pub number: u8,

@@ -11,7 +11,7 @@ use warning::Pair;
 pub mod calls;
 
 // The first `count` entries are held, the oldest first. No pair is held twice.
-// Kept: a plain struct with the array of its own kind of key, lent as a slice, was asked for; an `ArrayVec` lends no free place.
+// Kept: a plain struct with the array of its own kind of key, lent as a slice, is a rule of the project; an `ArrayVec` lends no free place.
 #[derive(Drop)]
 pub struct OpenList {
     entries: [Entry<Pair>; OPEN_CAPACITY],

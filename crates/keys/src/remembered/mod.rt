@@ -12,7 +12,7 @@ pub mod calls;
 
 // The first `count` entries are held, the oldest first. No key is held twice, and few of one
 // network are.
-// Kept: a plain struct with the array of its own kind of key, lent as a slice, was asked for, as `OpenList` is one.
+// Kept: a plain struct with the array of its own kind of key, lent as a slice, is a rule of the project, as for `OpenList`.
 #[derive(Drop)]
 pub struct RememberedList {
     entries: [Entry<NetworkPair>; REMEMBERED_CAPACITY],
