@@ -40,6 +40,7 @@ impl Berths {
     }
 
     // The segment that is held at a place, where none is refused.
+    // Kept: one line over what this store has of its own, as in the pool.
     fn look_up(&self, place: Place) -> Result<Segment<&[u8]>, StoreFault>
         ensures { result_map_both content (λ f. f) result ≡ look_up berths_shape (holding self.now) place.slot place.number }
     {
@@ -94,6 +95,7 @@ impl Store for Berths {
         Ok(())
     }
 
+    // Kept: `drop_slot` and `is_held` are two lines over what this store has of its own, as in the pool.
     fn drop_slot(&mut self, slot: usize) -> Result<(), StoreFault> {
         check_slot(SLOTS, slot)?;
         self.clear(slot);

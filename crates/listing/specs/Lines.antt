@@ -3,15 +3,11 @@ use Rattle.std.specs.Prelude.{ℕ, Bool, true, false, List, ◌++◌, Some, None
 use Rattle.warning.specs.declared.Pair.{Pair}
 use Rattle.warning.specs.declared.Warning.{Warning}
 use Rattle.warning.specs.declared.Warning.TheVariants.{Primary, Message}
+use Rattle.words.specs.Parts.{length_text}
 use Rattle.tape.specs.declared.fault.TapeFault.{TapeFault}
 use Rattle.tape.specs.Refusals.{of_tape, offset_of}
 use Rattle.listing.specs.declared.Line.{Line}
 use Rattle.listing.specs.declared.Line.TheVariants.{Entry, End, Refused}
-
--- an area's length, or a dash where there is none
-abbrev pub area_text : Option ℕ → List ℕ
-area_text None = codes "-"
-area_text (Some n) = decimal n
 
 -- whether security information is present
 abbrev pub security_text : Option ℕ → List ℕ
@@ -34,7 +30,7 @@ message_text start coding message area =
 
 abbrev pub entry_text : ℕ → (Warning ℕ) → List ℕ
 entry_text offset (Primary pair warning-type security) = primary_text offset pair warning-type (security_text security)
-entry_text offset (Message block pair coding message area) = message_text (message_start offset block pair) coding message (area_text area)
+entry_text offset (Message block pair coding message area) = message_text (message_start offset block pair) coding message (length_text area)
 
 -- whether a tape was written back as it was
 abbrev pub same_text : Bool → List ℕ

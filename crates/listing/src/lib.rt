@@ -2,13 +2,14 @@
 #![tactic(auto)]
 
 ghost use Rattle.std.specs.Prelude.{◌≡◌, Some};
-ghost use Rattle.listing.specs.Lines.{line_text, area_text, security_text, same_text};
+ghost use Rattle.listing.specs.Lines.{line_text, security_text, same_text};
 
 pub mod list;
 
 use std::fmt;
 use tape::fault::TapeFault;
 use warning::{Outline, Refusal};
+use words::PartLength;
 
 // A line of a listing.
 #[derive(Clone, Copy, PartialEq, Eq, Debug)]
@@ -50,7 +51,7 @@ impl fmt::Display for Line {
                     message,
                     area,
                 } => {
-                    let area = Area(area);
+                    let area = PartLength(area);
                     write!(
                         f,
                         "{offset} message {block} {} {}",
@@ -72,22 +73,8 @@ impl fmt::Display for Line {
     }
 }
 
-// An area's length, or a dash where there is none.
-#[derive(Clone, Copy)]
-struct Area(Option<usize>);
-
-impl fmt::Display for Area {
-    ghost output = { λ area. Some (area_text area.0) };
-
-    fn fmt<W: fmt::Write>(&self, f: &mut fmt::Formatter<W>) -> fmt::Result {
-        match self.0 {
-            Some(octets) => write!(f, "{octets}"),
-            None => f.write_str("-"),
-        }
-    }
-}
-
 // Whether security information is present.
+// Kept: two words for the text of a line; a type that prints them would be longer.
 fn security_text(security: Option<usize>) -> &'static str
     ensures { result.now ≡ security_text security }
 {
@@ -98,6 +85,7 @@ fn security_text(security: Option<usize>) -> &'static str
 }
 
 // Whether the tape was written back as it was.
+// Kept: likewise.
 fn same_text(same: bool) -> &'static str
     ensures { result.now ≡ same_text same }
 {

@@ -37,6 +37,7 @@ pub fn octet_count(outline: Outline) -> usize
     }
 }
 
+// Kept: a segment of a store is written likewise, but a store and an outlet share no type.
 // Writes the octets of a warning to the start of the memory, where they have
 // to fit: the message and then the area, or the security information.
 pub fn lay(memory: &mut [u8], w: Warning<&[u8]>)

@@ -1,11 +1,11 @@
 // Outlet calls as lines of text, and their answers.
 use outlet::{Outlet, OutletFault};
-use samples::part::PartLength;
 use samples::{AREA_SEED, UNTOUCHED, optional_pattern, pattern, weighted_sum};
 use std::alloc::{AllocError, Global};
 use std::fmt;
 use std::str::SplitWhitespace;
 use warning::{Outline, Pair, Refusal, WarningBuf, WarningFault};
+use words::PartLength;
 
 // A warning by its outline and the seed of its octets.
 #[derive(Clone, Copy)]
@@ -44,7 +44,7 @@ pub enum Answer {
 }
 
 // Why a call has no answer.
-// Kept: a `From` of another crate's fault can stand only beside the enum that it makes.
+// Kept: in a crate of its own it would have to rest on the stores and the outlets.
 #[derive(Drop)]
 pub enum CallError {
     Refused(Refusal),
@@ -197,10 +197,7 @@ pub fn read_request(line: &str) -> Option<Request> {
         ("tape", _) => Request::OnTape(read_call(name, &mut words)?),
         _ => return None,
     };
-    match words.next() {
-        Some(_) => None,
-        None => Some(request),
-    }
+    words.next().is_none().then_some(request)
 }
 
 // The warning of a sample, with its octets.

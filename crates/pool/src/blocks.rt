@@ -22,6 +22,7 @@ struct Block {
 }
 
 // All blocks of a pool.
+// Kept: links by index, in fixed memory, are a rule of the project: a store has no heap.
 #[derive(Drop)]
 pub(crate) struct Blocks {
     blocks: [Block; BLOCKS],
@@ -57,6 +58,7 @@ impl Block {
     ghost use Rattle.octets.specs.Octets.{written};
 
     // The block with other octets at its start.
+    // Kept: by value, since a loan of a field of a type with an invariant was tried and gets no proof.
     fn with(self, part: &[u8]) -> Block
         requires { length part.now ≤ block_octets }
         ensures octets { result.octets ≡ written 0 part.now self.octets }

@@ -113,6 +113,7 @@ impl Pool {
         requires { slot < slot_count }
         ensures { holding self.new ≡ without_slot (holding self.old) slot }
     {
+        // Kept: the number is what each step is given.
         for number in 0..NUMBERS {
             self.release(slot, number);
         }
@@ -141,6 +142,7 @@ impl Store for Pool {
         Ok(())
     }
 
+    // Kept: `drop_slot` and `is_held` are two lines over what this store has of its own, as in the berths.
     fn drop_slot(&mut self, slot: usize) -> Result<(), StoreFault> {
         check_slot(SLOTS, slot)?;
         self.clear(slot);
@@ -148,6 +150,7 @@ impl Store for Pool {
     }
 
     fn drop_all(&mut self) {
+        // Kept: the slot is what each step is given.
         for slot in 0..SLOTS {
             self.clear(slot);
         }

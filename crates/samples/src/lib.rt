@@ -6,8 +6,6 @@ ghost use Rattle.std.specs.Prelude.{◌≡◌, IfOk, vec_items};
 ghost use Rattle.std.specs.Option.{option_map};
 ghost use Rattle.samples.specs.Samples.{octet_at, pattern, weighted_sum};
 
-pub mod part;
-
 use std::alloc::{AllocError, Global};
 
 // What each octet of a memory is before a call writes there.
@@ -38,11 +36,7 @@ pub fn optional_pattern(
 ) -> Result<Option<Vec<u8>>, AllocError>
     ensures { IfOk result (λ part. option_map (λ v. vec_items v) part ≡ option_map (pattern seed) count) }
 {
-    // Kept: a closure that allocates cannot be mapped over an `Option`.
-    match count {
-        Some(count) => Ok(Some(pattern(heap, seed, count)?)),
-        None => Ok(None),
-    }
+    count.map(|count| pattern(heap, seed, count)).transpose()
 }
 
 // One number that depends on each octet and its place.

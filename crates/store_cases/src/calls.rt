@@ -1,11 +1,11 @@
 // Store calls as lines of text, and their answers.
-use samples::part::PartLength;
 use samples::{AREA_SEED, UNTOUCHED, optional_pattern, pattern, weighted_sum};
 use std::alloc::{AllocError, Global};
 use std::fmt;
 use std::str::SplitWhitespace;
 use store::{Lengths, Place, Segment, Store, StoreFault};
 use warning::Refusal;
+use words::PartLength;
 
 // A segment by its lengths and the seed of its octets.
 #[derive(Clone, Copy)]
@@ -41,7 +41,7 @@ pub enum Answer {
 }
 
 // Why a call has no answer.
-// Kept: a `From` of another crate's fault can stand only beside the enum that it makes.
+// Kept: in a crate of its own it would have to rest on the stores and the outlets.
 #[derive(Drop)]
 pub enum CallError {
     Refused(Refusal),

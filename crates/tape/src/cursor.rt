@@ -45,6 +45,7 @@ impl<'a> Cursor<'a> {
     }
 
     // Another cursor at the same place.
+    // Kept: no `Copy`, since a type with a model and a lifetime cannot derive it.
     pub fn fork(&self) -> Cursor<'a>
         ensures { result ≡ self.now }
     {
@@ -93,6 +94,7 @@ impl<'a> Cursor<'a> {
     }
 
     // A number of two octets.
+    // Kept: each operand is split from the octets by a pattern of its own, which is a rule of the project.
     pub fn number(&mut self) -> Result<u16, TapeFault>
         ensures { gave result self.new ≡ number self.old }
     {

@@ -4,6 +4,7 @@ ghost use Rattle.tape.specs.Writing.{HasRoom, HasPut};
 use octets::put;
 
 // Lent memory, and the place in it where the next octets go.
+// Kept: the place beside the memory, since a write answers the place after it.
 #[derive(Drop)]
 pub struct Output<'m> {
     pub memory: &'m mut [u8],

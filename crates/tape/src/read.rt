@@ -101,7 +101,7 @@ fn part<S: Sink>(cursor: &mut Cursor<'_>, count: usize, sink: &mut S) -> Result<
 }
 
 // The body of a warning whose outline is given: its octets are handed on.
-// Kept: that the outline is one of a warning is asked of private functions alone, which have it from `head` or `judge`.
+// Kept: a type for an outline that is judged would be made for the one call that follows the judging.
 pub fn pass_body<S: Sink>(
     cursor: &mut Cursor<'_>,
     outline: Outline,
@@ -152,11 +152,9 @@ fn security_buf(
     requires { unwrap_or security 0 ≤ length octets.now }
     ensures { IfOk result (λ x. kept x ≡ option_map (λ n. take n octets.now) security) }
 {
-    // Kept: a closure that allocates cannot be mapped over an `Option`.
-    match security {
-        Some(count) => Ok(Some(Vec::from_slice(heap, &octets[..count])?)),
-        None => Ok(None),
-    }
+    security
+        .map(|count| Vec::from_slice(heap, &octets[..count]))
+        .transpose()
 }
 
 // The body of a warning whose outline is given, which makes the warning whole.

@@ -183,6 +183,7 @@ impl Outline {
     }
 }
 
+// Kept: one map over the parts would take a closure, and its contract a relation for each part.
 impl Warning<&[u8]> {
     // The warning without its octets.
     pub fn outline(self) -> Outline

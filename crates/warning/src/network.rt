@@ -6,7 +6,7 @@ use crate::numbers::*;
 
 // The mobile country code, and the mobile network code with its count of
 // digits: 01 and 001 are two networks.
-// Kept: the count is a number as it is sent, since a network of any other is asked for and is none.
+// Kept: the count is a number by the rules, as a cell sends it.
 #[derive(Clone, Copy, PartialEq, Eq, Debug)]
 pub struct Network {
     pub mcc: u16,

@@ -1,6 +1,8 @@
 // The length of a part that may be absent, as a word.
+#![tactic(auto)]
+
 ghost use Rattle.std.specs.Prelude.{Some};
-ghost use Rattle.samples.specs.Parts.{part_text, PartRead};
+ghost use Rattle.words.specs.Parts.{part_text, PartRead};
 
 use std::fmt;
 use std::num::ParseIntError;

@@ -2,7 +2,7 @@
 use Rattle.std.specs.Prelude.{◌≡◌, ◌≢◌, ℕ, List, Some, None, Ok, Err, Option, Result, codes, decimal}
 use Rattle.std.specs.declared.num.ParseIntError.{ParseIntError}
 use Rattle.std.specs.Str.Parse.{ParsesUnsigned}
-use Rattle.samples.specs.declared.part.PartLength.{PartLength}
+use Rattle.words.specs.declared.PartLength.{PartLength}
 
 -- a dash stands for an absent part
 abbrev pub length_text : Option ℕ → List ℕ
