@@ -4,7 +4,7 @@
 
 ghost use Rattle.std.specs.Prelude.{◌≡◌, is_ok, Some};
 ghost use Rattle.warning.specs.Meaning.{said, owned};
-ghost use Rattle.warning.specs.Notice.{outline};
+ghost use Rattle.warning.specs.Notice.{outline, with_parts, EachPart};
 ghost use Rattle.warning.specs.Rules.{radio_read, carries_message, limit, judged, judged_security, judged_message, is_warning};
 ghost use Rattle.warning.specs.Refusals.{of_warning, refusal_text};
 
@@ -183,11 +183,11 @@ impl Outline {
     }
 }
 
-// Kept: one map over the parts would take a closure, and its contract a relation for each part.
-impl Warning<&[u8]> {
-    // The warning without its octets.
-    pub fn outline(self) -> Outline
-        ensures { result ≡ outline (said self.entry) }
+impl<T: Drop> Warning<T> {
+    // The same warning, each part of it turned into something else.
+    pub fn map<U, F: Fn(T) -> U>(self, turned: F) -> Warning<U>
+        requires { F.IsAlwaysCallable turned }
+        ensures { EachPart (F.post turned) self result }
     {
         match self {
             Warning::Primary {
@@ -197,7 +197,7 @@ impl Warning<&[u8]> {
             } => Warning::Primary {
                 pair,
                 warning_type,
-                security: security.map(|octets| octets.len()),
+                security: security.map(&turned),
             },
             Warning::Message {
                 block,
@@ -209,10 +209,51 @@ impl Warning<&[u8]> {
                 block,
                 pair,
                 coding,
-                message: message.len(),
-                area: area.map(|octets| octets.len()),
+                message: turned(message),
+                area: area.map(&turned),
             },
         }
+    }
+}
+
+impl<T> Warning<T> {
+    // The same warning, with its parts borrowed.
+    pub fn as_ref(&self) -> Warning<&T>
+        ensures { with_parts (λ part. part.now) result ≡ self.now }
+    {
+        match self {
+            Warning::Primary {
+                pair,
+                warning_type,
+                security,
+            } => Warning::Primary {
+                pair: *pair,
+                warning_type: *warning_type,
+                security: security.as_ref(),
+            },
+            Warning::Message {
+                block,
+                pair,
+                coding,
+                message,
+                area,
+            } => Warning::Message {
+                block: *block,
+                pair: *pair,
+                coding: *coding,
+                message,
+                area: area.as_ref(),
+            },
+        }
+    }
+}
+
+impl Warning<&[u8]> {
+    // The warning without its octets.
+    pub fn outline(self) -> Outline
+        ensures { result ≡ outline (said self.entry) }
+    {
+        self.map(|octets| octets.len())
     }
 
     // Refuses what is no warning, by its first fault.
@@ -229,29 +270,6 @@ impl WarningBuf {
     pub fn as_warning(&self) -> Warning<&[u8]>
         ensures { said result ≡ owned self.now }
     {
-        match self {
-            Warning::Primary {
-                pair,
-                warning_type,
-                security,
-            } => Warning::Primary {
-                pair: *pair,
-                warning_type: *warning_type,
-                security: security.as_deref(),
-            },
-            Warning::Message {
-                block,
-                pair,
-                coding,
-                message,
-                area,
-            } => Warning::Message {
-                block: *block,
-                pair: *pair,
-                coding: *coding,
-                message: message.as_slice(),
-                area: area.as_deref(),
-            },
-        }
+        self.as_ref().map(|octets| octets.as_slice())
     }
 }
