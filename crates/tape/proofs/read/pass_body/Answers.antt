@@ -1,6 +1,7 @@
-use Rattle.std.proofs.Common.{◌+◌, ◌≤◌, length, unwrap_or, sym, ap, ◌∙◌, arith, rules}
+use Rattle.std.proofs.Common.{◌+◌, ◌≤◌, length, drop, unwrap_or, sym, ap, ◌∙◌, arith, rules}
 use Rattle.std.proofs.lemmas.Result.{err_from_is_err_and}
 use Rattle.tape.specs.Heads.{body}
+use Rattle.tape.specs.Reading.{operand, all_zero}
 use Rattle.tape.proofs.Entries.{part_ok}
 use Rattle.tape.proofs.Readings.{primary_refused, message_refused, primary_handed, both_handed}
 use Rattle.tape.proofs.read.pass_body.Goals as goal
@@ -9,14 +10,14 @@ pub returns-in_err-octets-in-Primary : goal.returns-in_err-octets-in-Primary
 returns-in_err-octets-in-Primary g c =
     let p = err_from_is_err_and c.from_residual.result c.from_residual.ensures.1 in
     let o = c.in-Primary in
-    let e = rw c.unwrap_or-count.ensures at c.in_err-octets-in-Primary.ensures.value in
-    rw (p.1, p.2) (ap (λ z. body z c.args.cursor.now) o.is ∙ primary_refused o.pair o.warning_type o.security c.args.cursor.now _ (sym e))
+    let e = ap (λ n. operand 50 (λ xs. all_zero (drop n xs)) c.args.cursor.now) (sym c.unwrap_or-count.ensures) ∙ sym c.in_err-octets-in-Primary.ensures.value in
+    rw (p.1, p.2) (ap (λ z. body z c.args.cursor.now) o.is ∙ primary_refused o.pair o.warning_type o.security c.args.cursor.now _ e)
 
 pub returns-in_ok-octets-in-Primary : goal.returns-in_ok-octets-in-Primary
 returns-in_ok-octets-in-Primary g c =
     let o = c.in-Primary in
-    let e = rw c.unwrap_or-count.ensures at c.in_ok-octets-in-Primary.ensures.value in
-    primary_handed c.args.outline c.args.cursor.now (λ xs. g.S.Sink.took c.args.sink.now xs c.take.new.self) o.pair o.warning_type o.security c.in_ok-octets-in-Primary.octets.now c.padded.new.self o.is (sym e) (rw c.unwrap_or-count.ensures at c.take.ensures)
+    let e = ap (λ n. operand 50 (λ xs. all_zero (drop n xs)) c.args.cursor.now) (sym c.unwrap_or-count.ensures) ∙ sym c.in_ok-octets-in-Primary.ensures.value in
+    primary_handed c.args.outline c.args.cursor.now (λ xs. g.S.Sink.took c.args.sink.now xs c.take.new.self) o.pair o.warning_type o.security c.in_ok-octets-in-Primary.octets.now c.padded.new.self o.is e (rw c.unwrap_or-count.ensures at c.take.ensures)
 
 pub returns-in_err-part-in-Message : goal.returns-in_err-part-in-Message
 returns-in_err-part-in-Message g c =
