@@ -94,7 +94,7 @@ impl<'a> Cursor<'a> {
     }
 
     // A number of two octets.
-    // Kept: each operand is split from the octets by a pattern of its own, which is a rule of the project.
+    // Kept: `octet`, `number` and `number_to` each split their operand by a pattern of its own, a rule of the project.
     pub fn number(&mut self) -> Result<u16, TapeFault>
         ensures { gave result self.new ≡ number self.old }
     {

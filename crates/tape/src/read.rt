@@ -158,6 +158,7 @@ fn security_buf(
 }
 
 // The body of a warning whose outline is given, which makes the warning whole.
+// Kept: as for `pass_body`, the outline comes from the head just before.
 fn body(heap: Global, cursor: &mut Cursor<'_>, outline: Outline) -> Result<WarningBuf, ReadError>
     requires { is_warning outline ≡ true }
     ensures { Agrees owned (body outline cursor.old) result cursor.new }

@@ -95,6 +95,7 @@ impl Output<'_> {
         }
     }
 
+    // Kept: a type for an outline that is judged would be made for the one call that follows `cost`.
     // The head of a warning: its command octet, and the operands before its
     // octets.
     fn put_head(&mut self, outline: Outline)
