@@ -4,6 +4,7 @@
 ghost use Rattle.instances.specs.Costs.{PoolCosts};
 ghost use Rattle.instances.specs.Primaries.{FivePrimaries};
 
+pub mod costs;
 pub mod primaries;
 
 // Each row of the table is a theorem over the definitions that the contracts cite.

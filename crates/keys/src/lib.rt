@@ -53,7 +53,7 @@ impl Expiry {
 }
 
 // Where the key stands.
-// Kept: a slice and a key are the two arguments of a search; a struct of both would be made for one call.
+// Kept: a slice and a key are the two arguments of this and the other searches; a struct of both would be made for one call.
 pub fn find<K: Key>(xs: &[Entry<K>], key: &K) -> Option<usize>
     ensures value { result ≡ place K.eq key.now xs.now }
     ensures found { Found key.now xs.now result }

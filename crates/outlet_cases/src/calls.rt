@@ -9,13 +9,13 @@ use words::PartLength;
 
 // A warning by its outline and the seed of its octets.
 #[derive(Clone, Copy)]
-pub struct Sample {
-    pub outline: Outline,
-    pub seed: usize,
+pub(crate) struct Sample {
+    pub(crate) outline: Outline,
+    pub(crate) seed: usize,
 }
 
 #[derive(Clone, Copy)]
-pub enum Call {
+pub(crate) enum Call {
     Give(Sample),
     // into a buffer of a length
     Take(usize),
@@ -26,14 +26,14 @@ pub enum Call {
 
 // What a line asks for.
 #[derive(Clone, Copy)]
-pub enum Request {
+pub(crate) enum Request {
     OnRack(Call),
     OnTape(Call),
     TapeOctets,
 }
 
 #[derive(Clone, Copy)]
-pub enum Answer {
+pub(crate) enum Answer {
     Done,
     Count(usize),
     First(Option<Outline>),
@@ -46,7 +46,7 @@ pub enum Answer {
 // Why a call has no answer.
 // Kept: in a crate of its own it would have to rest on the stores and the outlets.
 #[derive(Drop)]
-pub enum CallError {
+pub(crate) enum CallError {
     Refused(Refusal),
     Memory(AllocError),
 }
@@ -187,7 +187,7 @@ fn read_call(name: &str, words: &mut SplitWhitespace<'_>) -> Option<Call> {
 }
 
 // What a line asks for, if it is well formed.
-pub fn read_request(line: &str) -> Option<Request> {
+pub(crate) fn read_request(line: &str) -> Option<Request> {
     let mut words = line.split_whitespace();
     let outlet = words.next()?;
     let name = words.next()?;
@@ -237,7 +237,11 @@ fn take<O: Outlet>(heap: Global, outlet: &mut O, length: usize) -> Result<Answer
 }
 
 // Makes a call on an outlet.
-pub fn perform<O: Outlet>(heap: Global, outlet: &mut O, call: Call) -> Result<Answer, CallError> {
+pub(crate) fn perform<O: Outlet>(
+    heap: Global,
+    outlet: &mut O,
+    call: Call,
+) -> Result<Answer, CallError> {
     match call {
         Call::Give(sample) => {
             let warning = make(heap, sample)?;
@@ -252,6 +256,6 @@ pub fn perform<O: Outlet>(heap: Global, outlet: &mut O, call: Call) -> Result<An
 }
 
 // The answer about octets that are lent.
-pub fn octets_answer(octets: &[u8]) -> Answer {
+pub(crate) fn octets_answer(octets: &[u8]) -> Answer {
     Answer::Octets(octets.len(), weighted_sum(octets))
 }

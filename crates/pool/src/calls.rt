@@ -52,6 +52,7 @@ impl Pool {
     }
 
     // What is held at a place, where nothing is refused.
+    // Kept: one line over what this store has of its own, as in the berths.
     fn look_up(&self, place: Place) -> Result<Stored, StoreFault>
         ensures { result_map_both (segment_of (parts self.now.chains) (links self.now.chains)) (λ f. f) result ≡ look_up pool_shape (holding self.now) place.slot place.number }
     {

@@ -9,13 +9,13 @@ use words::PartLength;
 
 // A segment by its lengths and the seed of its octets.
 #[derive(Clone, Copy)]
-pub struct Sample {
-    pub lengths: Lengths,
-    pub seed: usize,
+pub(crate) struct Sample {
+    pub(crate) lengths: Lengths,
+    pub(crate) seed: usize,
 }
 
 #[derive(Clone, Copy)]
-pub enum Call {
+pub(crate) enum Call {
     Put(Place, Sample),
     DropSlot(usize),
     DropAll,
@@ -33,7 +33,7 @@ pub enum Call {
 }
 
 #[derive(Clone, Copy)]
-pub enum Answer {
+pub(crate) enum Answer {
     Done,
     Count(usize),
     Truth(bool),
@@ -43,7 +43,7 @@ pub enum Answer {
 // Why a call has no answer.
 // Kept: in a crate of its own it would have to rest on the stores and the outlets.
 #[derive(Drop)]
-pub enum CallError {
+pub(crate) enum CallError {
     Refused(Refusal),
     Memory(AllocError),
 }
@@ -89,7 +89,7 @@ fn read_sample(words: &mut SplitWhitespace<'_>) -> Option<Sample> {
 }
 
 // The call that the words of a line name, after the name of the store.
-pub fn read_call(words: &mut SplitWhitespace<'_>) -> Option<Call> {
+pub(crate) fn read_call(words: &mut SplitWhitespace<'_>) -> Option<Call> {
     let call = match words.next()? {
         "put" => Call::Put(read_place(words)?, read_sample(words)?),
         "drop" => Call::DropSlot(words.next()?.parse().ok()?),
@@ -140,7 +140,11 @@ fn copied_sum<S: Store>(
 }
 
 // Makes a call on a store.
-pub fn perform<S: Store>(heap: Global, store: &mut S, call: Call) -> Result<Answer, CallError> {
+pub(crate) fn perform<S: Store>(
+    heap: Global,
+    store: &mut S,
+    call: Call,
+) -> Result<Answer, CallError> {
     let answer = match call {
         Call::Put(place, sample) => {
             let segment = sampled(heap, sample)?;

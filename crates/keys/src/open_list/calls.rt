@@ -32,6 +32,7 @@ impl OpenList {
     }
 
     // The entries, the oldest first.
+    // Kept: each list is a plain struct of its own kind of key, by a rule of the project.
     pub fn entries(&self) -> &[Entry<Pair>]
         ensures { result.now ≡ opened self.now }
     {
@@ -93,6 +94,7 @@ impl OpenList {
 
     // Removes what was stored a period ago or more, and answers how many went.
     // The others keep their order.
+    // Kept: each list is a plain struct of its own kind of key, by a rule of the project.
     pub fn expire(&mut self, expiry: Expiry) -> usize
         ensures count { result ≡ gone expiry (opened self.old) }
         ensures after { opened self.new ≡ left expiry (opened self.old) }

@@ -42,6 +42,7 @@ impl RememberedList {
     }
 
     // The entries, the oldest first.
+    // Kept: each list is a plain struct of its own kind of key, by a rule of the project.
     pub fn entries(&self) -> &[Entry<NetworkPair>]
         ensures { result.now ≡ recalled self.now }
     {
@@ -67,6 +68,7 @@ impl RememberedList {
 
     // Removes what was stored a period ago or more, and answers how many went.
     // The others keep their order.
+    // Kept: each list is a plain struct of its own kind of key, by a rule of the project.
     pub fn expire(&mut self, expiry: Expiry) -> usize
         ensures count { result ≡ gone expiry (recalled self.old) }
         ensures after { recalled self.new ≡ left expiry (recalled self.old) }
