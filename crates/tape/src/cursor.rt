@@ -163,9 +163,16 @@ fn least_number(octets: &[u8]) -> usize
 fn is_padded(octets: &[u8], width: usize, count: usize) -> bool
     ensures { result ≡ list_all (λ x. nat_eq x 0) (drop count (take width octets.now)) }
 {
-    octets
+    front(octets, width)
         .iter()
-        .take(width)
         .skip(count)
         .all(|octet| *octet == 0)
+}
+
+// The first octets, at most so many.
+#[tactic(auto, using(std::proofs::lemmas::List::take_all))]
+fn front(octets: &[u8], most: usize) -> &[u8]
+    ensures { result.now ≡ take most octets.now }
+{
+    octets.get(..most).unwrap_or(octets)
 }

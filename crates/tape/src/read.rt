@@ -91,12 +91,15 @@ fn part<S: Sink>(cursor: &mut Cursor<'_>, count: usize, sink: &mut S) -> Result<
     requires { S.fits sink.old count }
     ensures { Passed (λ xs. xs) (part count cursor.old) (λ xs. S.took sink.old xs sink.new) result cursor.new }
 {
+    // a cursor of its own needs no write to memory for each operand
+    let mut here = cursor.fork();
     // Kept: by number, since there are no octets to cut into pieces before they are read.
     for command in 0..count.div_ceil(DATA_OCTETS) {
         let left = count - command * DATA_OCTETS;
-        let octets = cursor.data(left.min(DATA_OCTETS))?;
+        let octets = here.data(left.min(DATA_OCTETS))?;
         sink.take(octets);
     }
+    *cursor = here;
     Ok(())
 }
 

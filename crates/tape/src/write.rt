@@ -79,10 +79,15 @@ impl Output<'_> {
         requires fit { HasRoom self.old (piece octets.now) }
         ensures { HasPut self.old (piece octets.now) self.new }
     {
-        let zeros = [0u8; DATA_OCTETS];
         self.put(&[DATA, octets.len() as u8]);
-        self.put(octets);
-        self.put(&zeros[octets.len()..]);
+        // all but the last piece are full, and their width is then known
+        if let Some(full) = octets.as_array::<DATA_OCTETS>() {
+            self.put(full);
+        } else {
+            let zeros = [0u8; DATA_OCTETS];
+            self.put(octets);
+            self.put(&zeros[octets.len()..]);
+        }
     }
 
     // The data commands of one part.
