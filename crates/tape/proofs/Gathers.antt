@@ -19,7 +19,7 @@ prefixed_none : (r : Read (List ℕ)) → prefixed [] r ≡ r
 prefixed_none (Ok r) = refl
 prefixed_none (Err f) = refl
 
-part_none : (p : Place) → part 0 p ≡ Ok ([], p)
+pub part_none : (p : Place) → part 0 p ≡ Ok ([], p)
 unfolding part
 part_none p = refl
 
@@ -27,6 +27,16 @@ part_step : (count n : ℕ) (p : Place) → 0 < count → n ≡ min 32 count →
 unfolding part
 part_step count n p h e =
     ap (λ k. data_by k count p) (commands_more count h) ∙ ap (λ k. then (data_operands k p) (λ xs q. prefixed xs (part (count - 32) q))) (sym e)
+
+-- a part of one data command
+module _ (count : ℕ) (p : Place) (some : 0 < count) (few : count ≤ 32) where
+  pub part_read : (xs : List ℕ) (q : Place) → Ok (xs, q) ≡ data_operands count p → part count p ≡ Ok (xs, q)
+  part_read xs q d =
+      part_step count count p some (omega arith) ∙ then_is (data_operands count p) _ xs q (sym d) ∙ ap (λ k. prefixed xs (part k q)) (omega arith)
+      ∙ ap (prefixed xs) (part_none q) ∙ ap (λ z. Ok (z, q)) (append-nil xs)
+
+  pub part_refused : (f : TapeFault) → Err f ≡ data_operands count p → part count p ≡ Err f
+  part_refused f d = part_step count count p some (omega arith) ∙ then_err (data_operands count p) _ f (sym d)
 
 -- a part of which some octets have been handed on, and `left` are still to come
 pub record Handing (took : List ℕ → Type 0) (count : ℕ) (p₀ : Place) (left : ℕ) (p : Place) : Type 0 where

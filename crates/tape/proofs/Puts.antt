@@ -1,7 +1,8 @@
 -- Octets put into an output, one after another.
-use Rattle.std.proofs.Common.{◌≡◌, ℕ, ◌+◌, ◌-◌, ◌<◌, ◌≤◌, min, List, [], ◌++◌, length, take, drop, Some, None, Ok, Option, Bor, unwrap_or, refl, sym, ap, ◌∙◌, append_assoc, append-nil, length-append, inl, inr, arith}
+use Rattle.std.proofs.Common.{◌≡◌, ℕ, zero, suc, ◌+◌, ◌-◌, ◌*◌, ◌<◌, ◌≤◌, min, List, [], ◌++◌, length, take, drop, get_or, Some, None, Ok, Option, Bor, unwrap_or, refl, sym, ap, ◌∙◌, append_assoc, append-nil, length-append, inl, inr, arith}
 use Rattle.std.proofs.lemmas.Bool.{cases_lt}
-use Rattle.std.proofs.lemmas.List.{nil_from_length, take_at, drop_at}
+use Rattle.std.proofs.lemmas.List.{nil_from_length, take_at, drop_at, take-append-drop, length-take, length-drop, drop-drop}
+use Rattle.std.specs.Simd.{first_chunks}
 use Rattle.octets.specs.Octets.{written}
 use Rattle.octets.proofs.Writes.{then-written, length-written}
 use Rattle.warning.specs.declared.Warning.TheVariants.{Primary, Message}
@@ -89,3 +90,39 @@ so_far_more start now next part rest first more (done, put, whole) fit parts siz
       then_put start now next done (piece first) put one (omega arith),
       append_assoc done (piece first) (pieces more) ∙ ap (λ z. done ++ z) (sym (pieces_first rest first more parts size some)) ∙ whole,
     )
+
+-- a part cut into full data commands
+pub chunk_at : (k i : ℕ) (xs : List ℕ) → i < k → get_or (first_chunks 32 k xs) i [] ≡ take 32 (drop (i * 32) xs)
+chunk_at zero i xs h = absurd (omega arith)
+chunk_at (suc k) zero xs h = refl
+chunk_at (suc k) (suc i) xs h = chunk_at k i (drop 32 xs) (omega arith) ∙ ap (take 32) (drop-drop (i * 32) 32 xs ∙ ap (λ n. drop n xs) (omega arith))
+
+-- one full data command more
+module _ (start now : Output) (part : List ℕ) (i : ℕ) (so_far : PutSoFar start part now (drop (i * 32) part)) (fit : HasRoom start (pieces part)) (inside : (i + 1) * 32 ≤ length part) where
+  rest_long : 32 ≤ length (drop (i * 32) part)
+  rest_long = omega (arith, length-drop (i * 32) part)
+
+  rest_parts : drop (i * 32) part ≡ take 32 (drop (i * 32) part) ++ drop ((i + 1) * 32) part
+  rest_parts = sym (take-append-drop 32 (drop (i * 32) part)) ∙ ap (λ z. take 32 (drop (i * 32) part) ++ z) (drop-drop 32 (i * 32) part ∙ ap (λ n. drop n part) (omega arith))
+
+  first_size : length (take 32 (drop (i * 32) part)) ≡ min 32 (length (drop (i * 32) part))
+  first_size = length-take 32 (drop (i * 32) part)
+
+  pub full_room : HasRoom now (piece (take 32 (drop (i * 32) part)))
+  full_room = so_far_room start now part (drop (i * 32) part) (take 32 (drop (i * 32) part)) (drop ((i + 1) * 32) part) so_far fit rest_parts first_size (omega (arith, rest_long))
+
+  pub full_more : (next : Output) → HasPut now (piece (take 32 (drop (i * 32) part))) next → PutSoFar start part next (drop ((i + 1) * 32) part)
+  full_more next put = so_far_more start now next part (drop (i * 32) part) (take 32 (drop (i * 32) part)) (drop ((i + 1) * 32) part) so_far fit rest_parts first_size (omega (arith, rest_long)) put
+
+-- the last data command, if there are octets left for it
+pub all_put : (start now : Output) (part rest : List ℕ) → length rest ≡ 0 → PutSoFar start part now rest → HasPut start (pieces part) now
+all_put start now part rest none (done, put, whole) =
+    let e : rest ≡ [] = nil_from_length rest none in
+    rw (rw (e, pieces_none, append-nil) at whole) at put
+
+module _ (start now : Output) (part rest : List ℕ) (so_far : PutSoFar start part now rest) (fit : HasRoom start (pieces part)) (some : 0 < length rest) (few : length rest ≤ 32) where
+  pub last_room : HasRoom now (piece rest)
+  last_room = so_far_room start now part rest rest [] so_far fit (sym (append-nil rest)) (omega arith) some
+
+  pub last_put : (next : Output) → HasPut now (piece rest) next → HasPut start (pieces part) next
+  last_put next put = all_put start next part [] refl (so_far_more start now next part rest rest [] so_far fit (sym (append-nil rest)) (omega arith) some put)

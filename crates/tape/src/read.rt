@@ -8,13 +8,14 @@ ghost use Rattle.warning.specs.Numbers.{most_octets};
 ghost use Rattle.warning.specs.Rules.{is_warning};
 ghost use Rattle.tape.specs.Cursors.{gave, Agrees, flag_number};
 ghost use Rattle.tape.specs.Heads.{primary_outline, message_outline, head, body, Passed};
+ghost use Rattle.tape.specs.Numbers.{data_octets};
 ghost use Rattle.tape.specs.Reading.{part, most_flag, most_area, entry};
 
 use crate::cursor::Cursor;
 use crate::fault::*;
 use crate::numbers::*;
 use crate::output::Output;
-use crate::sink::Sink;
+use crate::sink::{Judged, Sink};
 use std::alloc::{AllocError, Global};
 use warning::numbers::*;
 use warning::{Outline, WarningBuf, octet_limit};
@@ -78,12 +79,15 @@ pub fn head(cursor: &mut Cursor<'_>) -> Result<Outline, TapeFault>
     ensures value { gave result cursor.new ≡ head cursor.old }
     ensures right { IfOk result (λ o. is_warning o ≡ true) }
 {
-    let offset = cursor.offset();
-    match cursor.octet()? {
-        PRIMARY => primary_outline(cursor),
-        MESSAGE => message_outline(cursor),
-        _ => Err(TapeFault::Unknown { offset }),
-    }
+    let mut here = cursor.fork();
+    let offset = here.offset();
+    let outline = match here.octet()? {
+        PRIMARY => primary_outline(&mut here)?,
+        MESSAGE => message_outline(&mut here)?,
+        _ => return Err(TapeFault::Unknown { offset }),
+    };
+    *cursor = here;
+    Ok(outline)
 }
 
 // The octets of a part, handed on from its data commands.
@@ -94,10 +98,12 @@ fn part<S: Sink>(cursor: &mut Cursor<'_>, count: usize, sink: &mut S) -> Result<
     // a cursor of its own needs no write to memory for each operand
     let mut here = cursor.fork();
     // Kept: by number, since there are no octets to cut into pieces before they are read.
-    for command in 0..count.div_ceil(DATA_OCTETS) {
-        let left = count - command * DATA_OCTETS;
-        let octets = here.data(left.min(DATA_OCTETS))?;
-        sink.take(octets);
+    for command in 0..count / DATA_OCTETS {
+        sink.take(here.data(DATA_OCTETS)?);
+    }
+    let last = count % DATA_OCTETS;
+    if last > 0 {
+        sink.take(here.data(last)?);
     }
     *cursor = here;
     Ok(())
@@ -136,11 +142,28 @@ fn fill(cursor: &mut Cursor<'_>, memory: &mut [u8]) -> Result<(), TapeFault>
     part(cursor, count, &mut Output { memory, at: 0 })
 }
 
-// The octets of a part, in memory of their own.
+// The octets of a part of one data command or none, in memory of their own.
+fn short_part_buf(heap: Global, cursor: &mut Cursor<'_>, count: usize) -> Result<Vec<u8>, ReadError>
+    requires { count ≤ data_octets }
+    ensures { Agrees vec_items (part count cursor.old) result cursor.new }
+{
+    if count == 0 {
+        return Ok(Vec::new(heap));
+    }
+    let octets = cursor.data(count)?;
+    Ok(Vec::from_slice(heap, octets)?)
+}
+
+// The octets of a part, in memory of their own. All of it is judged first, so
+// that no memory is taken for octets that are not there.
 // Kept: the heap and a cursor are used apart; a cursor needs no heap.
 fn part_buf(heap: Global, cursor: &mut Cursor<'_>, count: usize) -> Result<Vec<u8>, ReadError>
     ensures { Agrees vec_items (part count cursor.old) result cursor.new }
 {
+    if count <= DATA_OCTETS {
+        return short_part_buf(heap, cursor, count);
+    }
+    part(&mut cursor.fork(), count, &mut Judged)?;
     let mut octets = vec![in heap; 0; count]?;
     fill(cursor, &mut octets)?;
     Ok(octets)

@@ -73,21 +73,25 @@ fn area_head(area: Option<usize>) -> [u8; 3]
 }
 
 impl Output<'_> {
-    // One data command.
+    // A data command with all its octets. Its width is known, so that it takes no call to copy them.
+    fn put_full_piece(&mut self, octets: &[u8; DATA_OCTETS])
+        requires { HasRoom self.old (piece octets.now) }
+        ensures { HasPut self.old (piece octets.now) self.new }
+    {
+        self.put(&[DATA, DATA_OCTETS as u8]);
+        self.put(octets);
+    }
+
+    // A data command, with zeros past its octets.
     fn put_piece(&mut self, octets: &[u8])
         requires few { length octets.now ≤ data_octets }
         requires fit { HasRoom self.old (piece octets.now) }
         ensures { HasPut self.old (piece octets.now) self.new }
     {
+        let zeros = [0u8; DATA_OCTETS];
         self.put(&[DATA, octets.len() as u8]);
-        // all but the last piece are full, and their width is then known
-        if let Some(full) = octets.as_array::<DATA_OCTETS>() {
-            self.put(full);
-        } else {
-            let zeros = [0u8; DATA_OCTETS];
-            self.put(octets);
-            self.put(&zeros[octets.len()..]);
-        }
+        self.put(octets);
+        self.put(&zeros[octets.len()..]);
     }
 
     // The data commands of one part.
@@ -95,8 +99,12 @@ impl Output<'_> {
         requires fit { HasRoom self.old (pieces part.now) }
         ensures { HasPut self.old (pieces part.now) self.new }
     {
-        for piece in part.chunks(DATA_OCTETS) {
-            self.put_piece(piece);
+        let (full, last) = part.as_chunks::<DATA_OCTETS>();
+        for piece in full {
+            self.put_full_piece(piece);
+        }
+        if !last.is_empty() {
+            self.put_piece(last);
         }
     }
 

@@ -1,30 +1,42 @@
-use Rattle.std.proofs.Common.{◌∙◌, append-nil, rules}
-use Rattle.std.proofs.lemmas.List.{nil_from_length}
-use Rattle.std.specs.Slice.Iter.{chunks_rest}
-use Rattle.tape.proofs.Pieces.{pieces_none}
-use Rattle.tape.proofs.Puts.{so_far_room, so_far_more}
+use Rattle.std.proofs.Common.{◌≡◌, ◌*◌, ◌/◌, ◌<◌, ◌≤◌, false, [], length, get_or, drop, eqb, sym, ap, subst, ◌∙◌, arith}
+use Rattle.std.proofs.lemmas.Bool.{eqb-false, eqb-true}
+use Rattle.tape.proofs.Puts.{PutSoFar, chunk_at, full_room, full_more, last_room, last_put, all_put}
 use Rattle.tape.proofs.output.Output.put_part.Goals as goal
 
-pub put_piece-requires-clause-fit : goal.put_piece-requires-clause-fit
-put_piece-requires-clause-fit c =
-    let (_, _, size, so_far) = c.loop-piece.invariant in
-    let steps = c.in-Some.ensures.steps.1 in
-    so_far_room c.args.self.now c.loop-piece.self c.args.part.now (chunks_rest c.loop-piece.piece-iterator) c.in-Some.piece.now (chunks_rest c.next.new.self)
-    so_far c.requires.fit steps.0 (rw size at steps.1) steps.2
+pub put_full_piece-requires : goal.put_full_piece-requires
+put_full_piece-requires c =
+    let xs = c.args.part.now in
+    let i = c.loop-piece.piece-index in
+    let is = ap (λ z. get_or z i []) c.as_chunks.ensures.front ∙ chunk_at (length xs / 32) i xs (omega arith) in
+    rw is (full_room c.args.self.now c.loop-piece.self xs i c.loop-piece.invariant c.requires.fit (omega arith))
 
 pub loop-piece-preserved : goal.loop-piece-preserved
 loop-piece-preserved c =
-    let (_, _, size, so_far) = c.loop-piece.invariant in
-    let steps = c.in-Some.ensures.steps.1 in (
-      search rules,
-      tt,
-      c.in-Some.ensures.steps.0 ∙ size,
-      so_far_more c.args.self.now c.loop-piece.self c.put_piece.new.self c.args.part.now (chunks_rest c.loop-piece.piece-iterator) c.in-Some.piece.now
-          (chunks_rest c.next.new.self) so_far c.requires.fit steps.0 (rw size at steps.1) steps.2 c.put_piece.ensures,
-    )
+    let xs = c.args.part.now in
+    let i = c.loop-piece.piece-index in
+    let is = ap (λ z. get_or z i []) c.as_chunks.ensures.front ∙ chunk_at (length xs / 32) i xs (omega arith) in
+    full_more c.args.self.now c.loop-piece.self xs i c.loop-piece.invariant c.requires.fit (omega arith) c.put_full_piece.new.self (rw is at c.put_full_piece.ensures)
 
-pub returns : goal.returns
-returns c =
-    let (_, _, _, (done, put, whole)) = c.loop-piece.invariant in
-    let none = nil_from_length (chunks_rest c.loop-piece.piece-iterator) c.in-None.ensures.steps.1.0 in
-    rw (rw (none, pieces_none, append-nil) at whole) at put
+pub put_piece-requires-clause-fit : goal.put_piece-requires-clause-fit
+put_piece-requires-clause-fit c =
+    let xs = c.args.part.now in
+    let last = c.as_chunks.result.1.now in
+    let same : drop (c.loop-piece.piece-index * 32) xs ≡ last = ap (λ n. drop n xs) (omega arith) ∙ sym c.as_chunks.ensures.back in
+    let some : eqb (length last) 0 ≡ false = sym c.is_empty.ensures ∙ c.if-not-is_empty.true in
+    last_room c.args.self.now c.loop-piece.self xs last (subst (λ z. PutSoFar c.args.self.now xs c.loop-piece.self z) same c.loop-piece.invariant) c.requires.fit (omega (arith, eqb-false _ _ some)) (omega arith)
+
+pub returns-then-not-is_empty : goal.returns-then-not-is_empty
+returns-then-not-is_empty c =
+    let xs = c.args.part.now in
+    let last = c.as_chunks.result.1.now in
+    let same : drop (c.loop-piece.piece-index * 32) xs ≡ last = ap (λ n. drop n xs) (omega arith) ∙ sym c.as_chunks.ensures.back in
+    let some : eqb (length last) 0 ≡ false = sym c.is_empty.ensures ∙ c.if-not-is_empty.true in
+    last_put c.args.self.now c.loop-piece.self xs last (subst (λ z. PutSoFar c.args.self.now xs c.loop-piece.self z) same c.loop-piece.invariant) c.requires.fit (omega (arith, eqb-false _ _ some)) (omega arith) c.put_piece.new.self c.put_piece.ensures
+
+pub returns-else-not-is_empty : goal.returns-else-not-is_empty
+returns-else-not-is_empty c =
+    let xs = c.args.part.now in
+    let last = c.as_chunks.result.1.now in
+    let same : drop (c.loop-piece.piece-index * 32) xs ≡ last = ap (λ n. drop n xs) (omega arith) ∙ sym c.as_chunks.ensures.back in
+    let none = eqb-true (length last) 0 (sym c.is_empty.ensures ∙ c.if-not-is_empty.false) in
+    all_put c.args.self.now c.loop-piece.self xs last none (subst (λ z. PutSoFar c.args.self.now xs c.loop-piece.self z) same c.loop-piece.invariant)
