@@ -1,5 +1,5 @@
 -- What a rack holds are warnings, which never cost more than its total.
-use Rattle.std.specs.Prelude.{◌≡◌, ℕ, ◌≤◌, true, List, [], ◌∷◌, length, refl}
+use Rattle.std.specs.Prelude.{◌≡◌, ℕ, ◌≤◌, true, List, [], ◌∷◌, length, map, refl}
 use Rattle.std.proofs.Common.{◌∙◌, ap, arith, drop, take, slice_index_or, length-append, length-drop, length-take-le}
 use Rattle.std.proofs.lemmas.List.{length-map}
 use Rattle.std.proofs.lemmas.List.Elements.{All-map}
@@ -17,7 +17,7 @@ pub lawful : Lawful rack_room
 lawful = record { roomy = λ o h. omega arith; of_primary = λ p q t u s. refl; of_message = λ b p q c d n a. refl }
 
 -- a unit a warning
-units : (ws : List Notice) → costs rack_room ws ≡ length ws
+pub units : (ws : List Notice) → costs rack_room ws ≡ length ws
 units [] = refl
 units (w ∷ ws) = let rest = units ws in sum_by-cons (λ w. 1) w ws ∙ omega arith
 
@@ -44,5 +44,9 @@ outline-lies p = outline-standing p.outline p.octets (omega (arith, p.long, few_
 lies_right : (p : Place) → is_warning (outline (lies p)) ≡ true
 lies_right p = ap is_warning (outline-lies p) ∙ p.right
 
+-- what lies in places are warnings
+pub all_right : (ps : List Place) → Warnings (map lies ps)
+all_right ps = All-map (λ w. is_warning (outline w) ≡ true) lies ps (λ k d h. lies_right (slice_index_or ps k d))
+
 pub warnings_held : (r : Rack) → Warnings (holding r)
-warnings_held r = All-map (λ w. is_warning (outline w) ≡ true) lies (window r.oldest r.count r.places) (λ k d h. lies_right (slice_index_or (window r.oldest r.count r.places) k d))
+warnings_held r = all_right (window r.oldest r.count r.places)

@@ -20,7 +20,7 @@ use Rattle.tape_outlet.specs.Numbers.{tape_octets, tape_room}
 use Rattle.tape_outlet.specs.Holding.{holding}
 
 -- the length of a tape is what its warnings cost
-length-encode_all : (ws : List Notice) → all_warnings ws ≡ true → costs tape_room ws ≡ length (encode_all ws)
+pub length-encode_all : (ws : List Notice) → all_warnings ws ≡ true → costs tape_room ws ≡ length (encode_all ws)
 length-encode_all [] h = refl
 length-encode_all (w ∷ ws) h =
     let both = and_parts (is_warning (outline w)) (all_warnings ws) h in
