@@ -8,11 +8,9 @@ ghost use Rattle.samples.specs.Samples.{octet_at, pattern, weighted_sum};
 
 use std::alloc::{AllocError, Global};
 
-// What each octet of a memory is before a call writes there.
-pub const UNTOUCHED: u8 = 238;
+pub mod numbers;
 
-// How far the seeds of message and area are apart.
-pub const AREA_SEED: usize = 100;
+pub use numbers::{AREA_SEED, UNTOUCHED};
 
 // Octet i of the pattern with a seed.
 fn octet_at(seed: usize, i: usize) -> u8

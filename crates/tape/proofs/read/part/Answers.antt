@@ -48,10 +48,10 @@ returns-in_err-data-2 g c =
 pub returns-in_ok-data-2 : goal.returns-in_ok-data-2
 returns-in_ok-data-2 g c =
     let step = handing_more _ c.args.count c.fork-here.result (λ xs. g.S.Sink.took c.args.sink.now xs c.take-then-last-gt0.new.self) (c.args.count - c.loop-command.command * 32) 0 (c.args.count % 32) c.loop-command.here c.data-then-last-gt0.new.self c.in_ok-data-2.field-0.now (omega arith) (omega arith) (omega arith) c.in_ok-data-2.ensures
-        (λ xs few taken.
-        let room = g.met.S.Sink.fits_less c.args.sink.now (length xs + length c.in_ok-data-2.field-0.now) c.args.count few c.requires in
-        g.met.S.Sink.takes_more c.args.sink.now c.loop-command.sink c.take-then-last-gt0.new.self xs c.in_ok-data-2.field-0.now room taken c.take-then-last-gt0.ensures)
-        c.loop-command.invariant in
+    (λ xs few taken.
+    let room = g.met.S.Sink.fits_less c.args.sink.now (length xs + length c.in_ok-data-2.field-0.now) c.args.count few c.requires in
+    g.met.S.Sink.takes_more c.args.sink.now c.loop-command.sink c.take-then-last-gt0.new.self xs c.in_ok-data-2.field-0.now room taken c.take-then-last-gt0.ensures)
+    c.loop-command.invariant in
     let end = handing_end _ c.args.count c.fork-here.result 0 c.data-then-last-gt0.new.self (omega arith) step in
     (end.0, ap (part c.args.count) (sym c.fork-here.ensures) ∙ end.1, end.2)
 
