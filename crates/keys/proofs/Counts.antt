@@ -75,7 +75,7 @@ module _ {K : Type 0} (test : K → K → Bool) where
       (cases_Bool (test k e.key))
 
 module _ {K : Type 0} (same : K → K → Bool) (decides : (x y : K) → Decides (same x y) (x ≡ y)) where
-  same_together : (x y z : K) → same x y ≡ true → same x z ≡ same y z
+  pub same_together : (x y z : K) → same x y ≡ true → same x z ≡ same y z
   same_together x y z e = ap (λ k. same k z) ((decides x y).0 e)
 
   pub apart_stored : (e : Entry K) (xs : List (Entry K)) → None ≡ place same e.key xs → AtMost 1 same xs → AtMost 1 same (stored_last e xs)

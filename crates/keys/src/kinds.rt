@@ -1,5 +1,5 @@
 // The kinds of key.
-ghost use Rattle.keys.specs.Kinds.{same_pair, of_one_network};
+ghost use Rattle.keys.specs.Kinds.{same_pair, same_network_pair, of_one_network};
 ghost use Rattle.std.proofs.Common.{rules};
 ghost use Rattle.keys.specs.Agree.{decides_network_pair};
 
@@ -9,6 +9,8 @@ use warning::network::Network;
 
 // The pair of an open warning. Each is a group of its own.
 impl Key for Pair {
+    ghost same = { same_pair };
+
     ghost grouped = { same_pair };
 
     ghost decides = { Prim.search rules };
@@ -17,8 +19,12 @@ impl Key for Pair {
 
     ghost together = { Prim.search rules };
 
+    fn is(&self, other: &Pair) -> bool {
+        *self == *other
+    }
+
     fn is_grouped_with(&self, other: &Pair) -> bool {
-        self == other
+        self.is(other)
     }
 }
 
@@ -31,6 +37,8 @@ pub struct NetworkPair {
 
 // The pairs of one network are a group.
 impl Key for NetworkPair {
+    ghost same = { same_network_pair };
+
     ghost grouped = { of_one_network };
 
     ghost decides = { λ x y. decides_network_pair x y };
@@ -38,6 +46,10 @@ impl Key for NetworkPair {
     ghost itself = { Prim.search rules };
 
     ghost together = { Prim.search rules };
+
+    fn is(&self, other: &NetworkPair) -> bool {
+        self == other
+    }
 
     fn is_grouped_with(&self, other: &NetworkPair) -> bool {
         self.network == other.network

@@ -12,17 +12,22 @@ pub mod numbers;
 pub mod open_list;
 pub mod remembered;
 
-// What tells entries apart, and which of them belong together. Two keys are the same where they
-// are equal.
-pub trait Key: Copy + Eq {
+// What tells entries apart, and which of them belong together.
+pub trait Key: Copy {
+    // Whether all parts agree.
+    ghost same: { Self → Self → Bool };
+
     // Whether two keys are of one group.
     ghost grouped: { Self → Self → Bool };
+
+    fn is(&self, other: &Self) -> bool
+        ensures { result ≡ same self.now other.now };
 
     fn is_grouped_with(&self, other: &Self) -> bool
         ensures { result ≡ grouped self.now other.now };
 
     // The laws, which each type with this trait proves.
-    ghost decides: { (x y : Self) → Decides (Self.eq x y) (x ≡ y) };
+    ghost decides: { (x y : Self) → Decides (same x y) (x ≡ y) };
 
     ghost itself: { (x : Self) → grouped x x ≡ true };
 
@@ -55,10 +60,10 @@ impl Expiry {
 // Where the key stands.
 // Kept: a slice and a key are the two arguments of this and the other searches; a struct of both would be made for one call.
 pub fn find<K: Key>(xs: &[Entry<K>], key: &K) -> Option<usize>
-    ensures value { result ≡ place K.eq key.now xs.now }
+    ensures value { result ≡ place K.same key.now xs.now }
     ensures found { Found key.now xs.now result }
 {
-    xs.iter().position(|held| *key == held.key)
+    xs.iter().position(|held| key.is(&held.key))
 }
 
 // Where the oldest entry stands.

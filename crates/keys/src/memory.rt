@@ -64,10 +64,10 @@ pub fn remember<K: Key>(
     requires held { count.old ≤ length xs.old }
     requires some { 0 < length xs.old }
     requires group { 0 < most }
-    ensures answer { result ≡ memory_of K.eq entry.key (take count.old xs.old) }
-    ensures after { take count.new xs.new ≡ remembered K.eq K.grouped most (length xs.old) entry (take count.old xs.old) }
+    ensures answer { result ≡ memory_of K.same entry.key (take count.old xs.old) }
+    ensures after { take count.new xs.new ≡ remembered K.same K.grouped most (length xs.old) entry (take count.old xs.old) }
     ensures held { count.new ≤ length xs.old }
-    ensures apart { AtMost 1 K.eq (take count.old xs.old) → AtMost 1 K.eq (take count.new xs.new) }
+    ensures apart { AtMost 1 K.same (take count.old xs.old) → AtMost 1 K.same (take count.new xs.new) }
     ensures few { AtMost most K.grouped (take count.old xs.old) → AtMost most K.grouped (take count.new xs.new) }
 {
     let held = *count;

@@ -11,7 +11,7 @@ use Rattle.keys.proofs.memory.remember.Goals as goal
 pub returns-in-Some : goal.returns-in-Some
 returns-in-Some g c =
     let law = g.met.K.Key in
-    let same = g.K.PartialEq.eq in
+    let same = g.K.Key.same in
     let grouped = g.K.Key.grouped in
     let e = c.args.entry in
     let most = c.args.most in
@@ -33,7 +33,7 @@ returns-in-Some g c =
 pub returns : goal.returns
 returns g c =
     let law = g.met.K.Key in
-    let same = g.K.PartialEq.eq in
+    let same = g.K.Key.same in
     let grouped = g.K.Key.grouped in
     let e = c.args.entry in
     let most = c.args.most in
