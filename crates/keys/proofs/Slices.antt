@@ -1,9 +1,10 @@
 -- What changes of a part of a slice leave.
-use Rattle.std.proofs.Common.{◌≡◌, ℕ, ◌+◌, ◌-◌, ◌<◌, ◌≤◌, List, [], ◌∷◌, ◌++◌, length, take, drop, ap, ◌∙◌, take-take, arith}
+use Rattle.std.proofs.Common.{◌≡◌, ℕ, ◌+◌, ◌-◌, ◌<◌, ◌≤◌, Bool, true, List, [], ◌∷◌, ◌++◌, length, get_or, set, take, drop, ap, ◌∙◌, take-take, arith}
 use borrow.Rule.Slice.PartMut.{put_mid}
 use Rattle.std.specs.List.{remove}
 use Rattle.std.proofs.lemmas.List.{length-append, length-take-le, take-append-le, take_at}
 use Rattle.std.proofs.lemmas.List.Edits.{length-remove}
+use Rattle.std.proofs.lemmas.List.Filters.{FiltersInPlace, FiltersInPlace-more_set}
 use Rattle.std.proofs.lemmas.Slice.{put_mid-rotated}
 
 module _ {X : Type 0} where
@@ -27,3 +28,7 @@ module _ {X : Type 0} where
       let all : last ≡ take n items ++ x ∷ [] = e ∙ ap (λ ys. ys ++ x ∷ []) (rw less (take-take n (n + 1) items (omega arith))) in
       let long = ap length all ∙ length-append (take n items) (x ∷ []) in
       take_at last (drop (n + 1) items) (n + 1) (omega (arith, long, length-take-le n items (omega arith))) ∙ all
+
+  -- what stays is put behind what stayed before it
+  pub stays_at : {p : X → Bool} {xs ys : List X} {k i at : ℕ} {x : X} → FiltersInPlace p xs ys k i → i < length ys → p x ≡ true → x ≡ get_or ys i x → at ≡ k → FiltersInPlace p xs (set ys at x) (k + 1) (i + 1)
+  stays_at h lt stays is here = rw here (FiltersInPlace-more_set h lt stays is)

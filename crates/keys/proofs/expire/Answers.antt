@@ -1,9 +1,10 @@
 use Rattle.std.proofs.Common.{◌≡◌, ◌+◌, ◌-◌, not, length, sym, refl, ap, arith}
 use Rattle.std.proofs.lemmas.Bool.{not_from_true, not_from_false}
 use Rattle.std.proofs.lemmas.List.{length-take-le}
-use Rattle.std.proofs.lemmas.List.Filters.{FiltersInPlace-more_set, FiltersInPlace-more_no, FiltersInPlace-all, length-filter_both}
+use Rattle.std.proofs.lemmas.List.Filters.{FiltersInPlace-more_no, FiltersInPlace-all, length-filter_both}
 use Rattle.std.proofs.lemmas.List.Sums.{length-filter}
 use Rattle.keys.specs.Entries.{old}
+use Rattle.keys.proofs.Slices.{stays_at}
 use Rattle.keys.proofs.expire.Goals as goal
 use Rattle.keys.proofs.expire.Goals.{then-takes, else-takes}
 
@@ -18,7 +19,7 @@ loop-i-preserved g c =
     let next : i + 1 - went ≡ i - went + 1 = omega arith in
     elim c.if-takes.branch [
       | then-takes w ↦ (rw (w.xs-is, w.went-is, gap) (FiltersInPlace-more_no inv.0 (omega arith) (not_from_true gone (sym {b = gone} w.if-takes.ensures)) c.index-xs-i.is), omega (arith, w.went-is))
-      | else-takes w ↦ (rw (w.xs-is, w.went-is, next) (FiltersInPlace-more_set inv.0 (omega arith) (not_from_false gone (sym {b = gone} w.if-takes.ensures)) c.index-xs-i.is), omega (arith, w.went-is))
+      | else-takes w ↦ (rw (w.xs-is, w.went-is, next) (stays_at inv.0 (omega arith) (not_from_false gone (sym {b = gone} w.if-takes.ensures)) c.index-xs-i.is (omega arith)), omega (arith, w.went-is))
     ]
 
 pub returns : goal.returns
