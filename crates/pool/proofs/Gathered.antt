@@ -1,7 +1,6 @@
 -- Chains of blocks, written and read one block after another.
 use Rattle.std.proofs.Common.{◌≡◌, ℕ, zero, suc, ◌+◌, ◌-◌, ◌*◌, ◌/◌, ◌<◌, ◌≤◌, ◌≢◌, min, List, [], ◌∷◌, ◌++◌, map, length, get_or, take, drop, set, sym, refl, ap, ◌∙◌, ⊎_elim, add-one, take-add, arith}
-use Rattle.std.proofs.lemmas.List.{get_or-map, get_or-set_same, get_or-set_other, length-map, map-set, nil_from_length, take_at, take_all, drop_at, append_assoc, append-nil, length-append, length-take-le, length-drop}
-use Rattle.std.proofs.Math.Seq.{map-set_same}
+use Rattle.std.proofs.lemmas.List.{get_or-map, get_or-set_same, get_or-set_other, length-map, nil_from_length, take_at, take_all, drop_at, append_assoc, append-nil, length-append, length-take-le, length-drop}
 use Rattle.std.proofs.lemmas.Bool.{cases_lt}
 use Rattle.octets.specs.Octets.{written}
 use Rattle.octets.proofs.Writes.{then-written, written_none}
@@ -98,21 +97,12 @@ laying_none b first segment rest e = record {
   laid = record { others = λ _ _. refl; content = refl };
 }
 
-module _ (initial now : Blocks) (first link : Link) (segment rest rest' part : List ℕ) (x y : Block) (now' : Blocks) (b : ℕ) (is : b ≡ link.block) (straight : Straight (links initial) first.block (blocks_for (length segment))) (l : Laying initial now first.block link.block segment rest) (p : rest ≡ part ++ rest') (size : length part ≡ min block_octets (length rest)) (more : 0 < length rest) (octets : y.octets ≡ written 0 part (get_or now.blocks b x).octets) (next : y.next ≡ (get_or now.blocks b x).next) (after : now'.blocks ≡ set now.blocks b y) where
-  low : b < length now.blocks
-  low = omega (arith, is, link.there, now.all)
+module _ (initial now now' : Blocks) (first link link' : Link) (segment rest rest' part : List ℕ) (straight : Straight (links initial) first.block (blocks_for (length segment))) (l : Laying initial now first.block link.block segment rest) (p : rest ≡ part ++ rest') (size : length part ≡ min block_octets (length rest)) (more : 0 < length rest) (next : link'.block ≡ get_or (links now) link.block 0) (same : links now' ≡ links now) (new : parts now' ≡ set (parts now) link.block (written 0 part (block (parts now) link.block))) where
+  here : block (parts now') link.block ≡ part ++ drop (0 + length part) (block (parts now) link.block)
+  here = ap (λ z. block z link.block) new ∙ get_or-set_same (parts now) link.block (written 0 part (block (parts now) link.block)) [] (omega (arith, link.there, now.all, length-map now.blocks (λ z. z.octets)))
 
-  same' : links now' ≡ links initial
-  same' = ap (map (λ z. z.next.block)) after ∙ map-set_same (λ z. z.next.block) now.blocks b y x (ap (λ z. z.block) next) ∙ l.same
-
-  new : parts now' ≡ set (parts now) b y.octets
-  new = ap (map (λ z. z.octets)) after ∙ map-set (λ z. z.octets) now.blocks b y
-
-  here : block (parts now') b ≡ part ++ drop (0 + length part) (get_or now.blocks b x).octets
-  here = ap (λ z. block z b) new ∙ get_or-set_same (parts now) b y.octets [] (omega (arith, low, length-map now.blocks (λ z. z.octets))) ∙ octets
-
-  there : (c : ℕ) → (b ≢ c) → block (parts now') c ≡ block (parts now) c
-  there c ne = ap (λ z. block z c) new ∙ get_or-set_other (parts now) b c y.octets [] (λ e. ne (sym e))
+  there : (c : ℕ) → (link.block ≢ c) → block (parts now') c ≡ block (parts now) c
+  there c ne = ap (λ z. block z c) new ∙ get_or-set_other (parts now) link.block c (written 0 part (block (parts now) link.block)) [] (λ e. ne (sym e))
 
   longer : length rest ≡ length part + length rest'
   longer = ap length p ∙ length-append part rest'
@@ -123,50 +113,58 @@ module _ (initial now : Blocks) (first link : Link) (segment rest rest' part : L
   before : gathered (parts now') (links initial) first.block l.i ≡ l.done
   before =
       let g = gathered (parts now) (links initial) first.block l.i in
-      let s : gathered (parts now') (links initial) first.block l.i ≡ g = gathered-same (parts now) (parts now') (links initial) (links initial) first.block l.i (λ j _. refl) (λ j h. there (walk (links initial) first.block j) (λ e. let t = straight j l.i (omega (arith, total, l.whole more)) (omega (arith, total, l.whole more)) (sym e ∙ is ∙ l.at) in omega arith)) in
+      let s : gathered (parts now') (links initial) first.block l.i ≡ g = gathered-same (parts now) (parts now') (links initial) (links initial) first.block l.i (λ j _. refl) (λ j h. there (walk (links initial) first.block j) (λ e. let t = straight j l.i (omega (arith, total, l.whole more)) (omega (arith, total, l.whole more)) (sym e ∙ l.at) in omega arith)) in
       let n : length g ≡ l.i * block_octets = ap (λ z. length (gathered (parts now) z first.block l.i)) (sym l.same) ∙ length-gathered now first l.i in
       s ∙ sym (take_all (length l.done) g (omega (arith, l.whole more))) ∙ l.laid.content
 
-  pub laying_more : Laying initial now' first.block y.next.block segment rest'
+  pub laying_more : Laying initial now' first.block link'.block segment rest'
   laying_more = record {
-    same = same';
+    same = same ∙ l.same;
     done = l.done ++ part;
     i = l.i + 1;
-    at = ap (λ z. z.block) next ∙ walk_on now first.block l.i b x (omega (arith, is, link.there)) (is ∙ l.at ∙ ap (λ z. walk z first.block l.i) (sym l.same)) ∙ ap (λ z. walk z first.block (l.i + 1)) l.same;
+    at = next ∙ ap (λ z. get_or z link.block 0) l.same ∙ ap (λ j. get_or (links initial) j 0) l.at ∙ sym (walk_more (links initial) first.block l.i);
     counted = let n = length-append l.done part in omega (arith, size, l.whole more);
     cut = l.cut ∙ ap (λ z. l.done ++ z) p ∙ sym (append_assoc l.done part rest');
     whole = λ h. let n = length-append l.done part in omega (arith, size, longer, l.whole more);
     laid = record {
-      others = λ c ne. there c (λ e. ne l.i (omega arith) (sym l.at ∙ sym is ∙ e)) ∙ l.laid.others c (λ j h. ne j (omega arith));
+      others = λ c ne. there c (λ e. ne l.i (omega arith) (sym l.at ∙ e)) ∙ l.laid.others c (λ j h. ne j (omega arith));
       content =
-          let tail = drop (0 + length part) (get_or now.blocks b x).octets in
+          let tail = drop (0 + length part) (block (parts now) link.block) in
           ap (take (length (l.done ++ part)))
           (gathered-more (parts now') (links initial) first.block l.i
           ∙ ap (λ z. z ++ block (parts now') (walk (links initial) first.block l.i)) before
-          ∙ ap (λ z. l.done ++ block (parts now') z) (sym (is ∙ l.at))
+          ∙ ap (λ z. l.done ++ block (parts now') z) (sym l.at)
           ∙ ap (λ z. l.done ++ z) here
           ∙ sym (append_assoc l.done part tail))
           ∙ take_at (l.done ++ part) tail (length (l.done ++ part)) refl;
     };
   }
 
-pub laying_all : (initial now : Blocks) (first link : ℕ) (segment rest : List ℕ) → Laying initial now first link segment rest → length rest ≡ 0 → Laid (parts initial) (parts now) (links initial) first segment (blocks_for (length segment))
-laying_all initial now first link segment rest l none =
-    let e : segment ≡ l.done = l.cut ∙ ap (λ z. l.done ++ z) (nil_from_length rest none) ∙ append-nil l.done in
-    let n : l.i ≡ (length segment + 31) / 32 = l.counted ∙ ap (λ z. (length z + 31) / 32) (sym e) in
-    record {
-      others = λ b ne. l.laid.others b (λ j h. ne j (omega (arith, n)));
-      content = ⊎_elim
-          (λ (h : length segment < 1).
-          let z = nil_from_length segment (omega arith) in
-          ap (λ k. take k (gathered (parts now) (links initial) first (blocks_for (length segment)))) (ap length z) ∙ sym z)
-          (λ (h : 1 ≤ length segment).
-          let k : blocks_for (length segment) ≡ l.i = omega (arith, n) in
-          ap (λ z. take (length segment) (gathered (parts now) (links initial) first z)) k
-          ∙ ap (λ z. take (length z) (gathered (parts now) (links initial) first l.i)) e
-          ∙ l.laid.content ∙ sym e)
-          (cases_lt (length segment) 1);
-    }
+-- where no octets are left, those that are done are the segment's
+module _ (initial now : Blocks) (first link : ℕ) (segment rest : List ℕ) (l : Laying initial now first link segment rest) (none : length rest ≡ 0) where
+  all_done : segment ≡ l.done
+  all_done = l.cut ∙ ap (λ z. l.done ++ z) (nil_from_length rest none) ∙ append-nil l.done
+
+  all_counted : l.i ≡ (length segment + 31) / 32
+  all_counted = l.counted ∙ ap (λ z. (length z + 31) / 32) (sym all_done)
+
+  pub laying_rest : 1 ≤ length segment → link ≡ walk (links initial) first (blocks_for (length segment))
+  laying_rest some = l.at ∙ ap (walk (links initial) first) (omega (arith, all_counted))
+
+  pub laying_all : Laid (parts initial) (parts now) (links initial) first segment (blocks_for (length segment))
+  laying_all = record {
+    others = λ b ne. l.laid.others b (λ j h. ne j (omega (arith, all_counted)));
+    content = ⊎_elim
+        (λ (h : length segment < 1).
+        let z = nil_from_length segment (omega arith) in
+        ap (λ k. take k (gathered (parts now) (links initial) first (blocks_for (length segment)))) (ap length z) ∙ sym z)
+        (λ (h : 1 ≤ length segment).
+        let k : blocks_for (length segment) ≡ l.i = omega (arith, all_counted) in
+        ap (λ z. take (length segment) (gathered (parts now) (links initial) first z)) k
+        ∙ ap (λ z. take (length z) (gathered (parts now) (links initial) first l.i)) all_done
+        ∙ l.laid.content ∙ sym all_done)
+        (cases_lt (length segment) 1);
+  }
 
 -- a list that is cut past its first part
 take_past : (n : ℕ) (xs ys : List ℕ) → length xs ≤ n → take n (xs ++ ys) ≡ xs ++ take (n - length xs) ys

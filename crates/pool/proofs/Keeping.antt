@@ -1,9 +1,7 @@
 -- What a pool's fields fulfil after a segment came or went.
-use Rattle.std.proofs.Common.{◌≡◌, ℕ, zero, suc, ◌+◌, ◌-◌, ◌<◌, ◌≤◌, List, length, get_or, take, set, is_some, Some, None, Option, sym, refl, ap, ◌∙◌, subst, add-one, arith}
-use Rattle.std.proofs.lemmas.List.{length-set, take_at, take_all}
-use Rattle.std.proofs.lemmas.List.Sums.{sum_by_more}
-use Rattle.std.specs.List.{sum}
-use Rattle.store.specs.Meaning.{Content, Counted, count, count_of, lengths_of, octets, paid, replaced, slot_units, spread, sum_below, units}
+use Rattle.std.proofs.Common.{◌≡◌, ℕ, ◌+◌, ◌-◌, ◌<◌, ◌≤◌, List, length, get_or, take, set, is_some, Some, None, Option, sym, refl, ap, ◌∙◌, subst, arith}
+use Rattle.std.proofs.lemmas.List.{length-set, take_at}
+use Rattle.store.specs.Meaning.{Content, Counted, count, count_of, lengths_of, octets, paid, replaced, spread, units}
 use Rattle.store.proofs.Changes.{none_if}
 use Rattle.store.proofs.Places.{There}
 use Rattle.store.proofs.Standing.{length-octets, spread_is}
@@ -20,9 +18,10 @@ use Rattle.pool.proofs.Links.{disjoint, apart_from}
 use Rattle.pool.proofs.Moves.{Sound, filled_apart, filled_held, released_apart, released_held}
 
 -- the facts of a pool's fields, and what it holds then
-pub record Kept (ps : List (Option Stored)) (octs : List (List ℕ)) (next : List ℕ) (free : ℕ) (used : List ℕ) : Type 0 where
+pub record Kept (ps : List (Option Stored)) (octs : List (List ℕ)) (next : List ℕ) (free held : ℕ) (used : List ℕ) : Type 0 where
   pub all : length ps ≡ place_count
   pub slots : length used ≡ slot_count
+  pub kept : held ≡ in_use octs next ps
   pub within : in_use octs next ps ≤ block_count
   pub apart : Apart next (head ps free) (size ps (in_use octs next ps))
   pub counted : Counted blocks_for (held_in octs next ps) used
@@ -40,16 +39,6 @@ laid_octets old new next first seg xs k x c laid =
     let n : blocks_for (length (octets seg)) ≡ k = ap (λ z. blocks_for z) (length-octets seg) ∙ sym c in
     subst Q n (subst P x laid)
 
--- counts that are added up
-sum_of : (f : ℕ → ℕ) (xs : List ℕ) → ((i : ℕ) → i < length xs → get_or xs i 0 ≡ f i) → (n : ℕ) → n ≤ length xs → sum (take n xs) ≡ sum_below f n
-unfolding sum_below
-sum_of f xs each zero h = refl
-sum_of f xs each (suc n) h =
-    let t = sum_by_more (λ x. x) xs n 0 (omega arith) in
-    let s = sum_of f xs each n (omega arith) in
-    let e = each n (omega arith) in
-    ap (λ z. sum (take z xs)) (sym (add-one n)) ∙ omega arith
-
 module _ (p : Pool) where
   abbrev used : ℕ
   used = units pool_shape (holding p)
@@ -63,12 +52,6 @@ module _ (p : Pool) where
       let c = p.counted slot (omega (arith, p.slots)) in
       let b = slot_below pool_shape (holding p) slot low in
       omega arith
-
-  pub used_sum : sum p.used ≡ units pool_shape (holding p)
-  used_sum =
-      ap sum (sym (take_all (length p.used) p.used (omega arith)))
-      ∙ sum_of (slot_units blocks_for (holding p)) p.used p.counted (length p.used) (omega arith)
-      ∙ ap (sum_below (slot_units blocks_for (holding p))) p.slots
 
 module _ (p : Pool) (slot n i : ℕ) (t : There slot_count slot n i) where
   low : i < place_count
@@ -89,7 +72,7 @@ module _ (p : Pool) (slot n i : ℕ) (t : There slot_count slot n i) where
         let o : paid blocks_for (holding p slot n) ≡ 0 = ap (paid blocks_for) none in
         ap (units pool_shape) came ∙ omega arith
 
-    kept_more : Kept (set p.places i (Some q)) octs (links p.chains) (walk (links p.chains) p.free.block k) (set p.used slot (get_or p.used slot 0 + k))
+    kept_more : Kept (set p.places i (Some q)) octs (links p.chains) (walk (links p.chains) p.free.block k) (p.held + k) (set p.used slot (get_or p.used slot 0 + k))
     kept_more =
         let ps = set p.places i (Some q) in
         let first = walk (links p.chains) p.free.block k in
@@ -98,6 +81,7 @@ module _ (p : Pool) (slot n i : ℕ) (t : There slot_count slot n i) where
         record {
           all = length-set p.places i _ ∙ p.all;
           slots = length-set p.used slot _ ∙ p.slots;
+          kept = omega (arith, more, p.kept);
           within = omega (arith, more, p.within);
           apart = subst P (sym more) (apart_from (links p.chains) (head ps first) (size ps (units pool_shape (holding p) + k)) (filled_apart p.places (parts p.chains) octs (links p.chains) p.free.block (units pool_shape (holding p)) (sound p) slot n i t (vacant_at none) seg q m f k c room laid));
           counted = counted_held blocks_for _ _ _ came (counted_replaced blocks_for (holding p) slot n (Some seg) p.used (get_or p.used slot 0 + k) (omega (arith, t.low, p.slots)) t.few p.counted (omega arith));
@@ -106,8 +90,8 @@ module _ (p : Pool) (slot n i : ℕ) (t : There slot_count slot n i) where
     pub filled_holding : (next : List ℕ) → next ≡ links p.chains → held_in octs next (set p.places i (Some q)) ≡ replaced (holding p) slot n (Some seg)
     filled_holding next e = rw e came
 
-    pub filled_kept : (next : List ℕ) (free : ℕ) → next ≡ links p.chains → free ≡ walk next p.free.block k → Kept (set p.places i (Some q)) octs next free (set p.used slot (get_or p.used slot 0 + k))
-    filled_kept next free e g = let g' : free ≡ walk (links p.chains) p.free.block k = g ∙ ap (λ z. walk z p.free.block k) e in rw (e, g') kept_more
+    pub filled_kept : (next : List ℕ) (free : ℕ) → next ≡ links p.chains → free ≡ walk (links p.chains) p.free.block k → Kept (set p.places i (Some q)) octs next free (p.held + k) (set p.used slot (get_or p.used slot 0 + k))
+    filled_kept next free e g = rw (e, g) kept_more
 
   -- a segment went
   module _ (q : Stored) (e : stored p.places i ≡ Some q) (k : ℕ) (c : k ≡ blocks_for (count_of q.lengths)) where
@@ -123,6 +107,9 @@ module _ (p : Pool) (slot n i : ℕ) (t : There slot_count slot n i) where
     in_all : k ≤ units pool_shape (holding p)
     in_all = omega (arith, enough_in, slot_used p slot t.low)
 
+    pub enough : k ≤ p.held
+    enough = omega (arith, in_all, p.kept)
+
     inside : walk (links p.chains) q.first.block (k - 1) < length (links p.chains)
     inside = omega (arith, walk_inside p.chains q.first (k - 1), length-links p.chains)
 
@@ -134,7 +121,7 @@ module _ (p : Pool) (slot n i : ℕ) (t : There slot_count slot n i) where
         let u = units-replaced pool_shape (holding p) slot n None t.low t.few in
         ap (units pool_shape) gone ∙ omega (arith, paid_k)
 
-    kept_less : Kept (set p.places i None) (parts p.chains) (set (links p.chains) (walk (links p.chains) q.first.block (k - 1)) p.free.block) q.first.block (set p.used slot (get_or p.used slot 0 - k))
+    kept_less : Kept (set p.places i None) (parts p.chains) (set (links p.chains) (walk (links p.chains) q.first.block (k - 1)) p.free.block) q.first.block (p.held - k) (set p.used slot (get_or p.used slot 0 - k))
     kept_less =
         let ps = set p.places i None in
         let next = set (links p.chains) (walk (links p.chains) q.first.block (k - 1)) p.free.block in
@@ -142,6 +129,7 @@ module _ (p : Pool) (slot n i : ℕ) (t : There slot_count slot n i) where
         record {
           all = length-set p.places i _ ∙ p.all;
           slots = length-set p.used slot _ ∙ p.slots;
+          kept = omega (arith, less, p.kept, in_all);
           within = omega (arith, less, p.within);
           apart = subst P (sym less) (apart_from next (head ps q.first.block) (size ps (units pool_shape (holding p) - k)) (released_apart p.places (parts p.chains) (links p.chains) p.free.block (units pool_shape (holding p)) (sound p) slot n i t q e k c in_all inside));
           counted = counted_held blocks_for _ _ _ gone (counted_replaced blocks_for (holding p) slot n None p.used (get_or p.used slot 0 - k) (omega (arith, t.low, p.slots)) t.few p.counted (omega (arith, paid_k, enough_in)));
@@ -150,5 +138,5 @@ module _ (p : Pool) (slot n i : ℕ) (t : There slot_count slot n i) where
     pub released_holding : (octs : List (List ℕ)) (next : List ℕ) → octs ≡ parts p.chains → next ≡ set (links p.chains) (walk (links p.chains) q.first.block (k - 1)) p.free.block → held_in octs next (set p.places i None) ≡ replaced (holding p) slot n None
     released_holding octs next a b = rw (a, b) gone
 
-    pub released_kept : (octs : List (List ℕ)) (next : List ℕ) → octs ≡ parts p.chains → next ≡ set (links p.chains) (walk (links p.chains) q.first.block (k - 1)) p.free.block → Kept (set p.places i None) octs next q.first.block (set p.used slot (get_or p.used slot 0 - k))
+    pub released_kept : (octs : List (List ℕ)) (next : List ℕ) → octs ≡ parts p.chains → next ≡ set (links p.chains) (walk (links p.chains) q.first.block (k - 1)) p.free.block → Kept (set p.places i None) octs next q.first.block (p.held - k) (set p.used slot (get_or p.used slot 0 - k))
     released_kept octs next a b = rw (a, b) kept_less

@@ -57,25 +57,20 @@ impl Block {
     ghost use Rattle.std.specs.Prelude.{◌≤◌};
     ghost use Rattle.octets.specs.Octets.{written};
 
-    // The block with other octets at its start.
-    // Kept: by value, since a loan of a field of a type with an invariant was tried and gets no proof.
-    fn with(self, part: &[u8]) -> Block
+    // Writes octets at the start of the block.
+    fn write(&mut self, part: &[u8])
         requires { length part.now ≤ block_octets }
-        ensures octets { result.octets ≡ written 0 part.now self.octets }
-        ensures next { result.next ≡ self.next }
+        ensures octets { self.new.octets ≡ written 0 part.now self.old.octets }
+        ensures next { self.new.next ≡ self.old.next }
     {
-        let mut octets = self.octets;
-        put(&mut octets, 0, part);
-        Block {
-            octets,
-            next: self.next,
-        }
+        put(&mut self.octets, 0, part);
     }
 }
 
 impl Blocks {
     ghost use Rattle.std.specs.Prelude.{ℕ, ◌+◌, ◌-◌, ◌≤◌, ◌%◌, take, slice_index, slice_set};
-    ghost use Rattle.pool.specs.Chains.{links, parts, walk, gathered, Straight, Laid};
+    ghost use Rattle.octets.specs.Octets.{written};
+    ghost use Rattle.pool.specs.Chains.{links, parts, block, walk, gathered, Straight, Laid};
 
     // Blocks that are linked one after the other.
     pub(crate) fn new() -> Blocks
@@ -117,19 +112,36 @@ impl Blocks {
         self.blocks[last.index()].next = to;
     }
 
-    // Puts a segment's octets into the first blocks of a chain.
-    pub(crate) fn lay(&mut self, first: Link, segment: &[u8])
+    // Writes octets at the start of a block, and answers its link.
+    fn write(&mut self, link: Link, part: &[u8]) -> Link
+        requires { length part.now ≤ block_octets }
+        ensures next { result.block ≡ slice_index (links self.old) link.block }
+        ensures same { links self.new ≡ links self.old }
+        ensures octets { parts self.new ≡ slice_set (parts self.old) link.block (written 0 part.now (block (parts self.old) link.block)) }
+    {
+        let blocks = &mut self.blocks;
+        let block = &mut blocks[link.index()];
+        block.write(part);
+        block.next
+    }
+
+    // Puts a segment's octets into the first blocks of a chain, and answers
+    // the link to the block after them.
+    pub(crate) fn lay(&mut self, first: Link, segment: &[u8]) -> Link
         requires { Straight (links self.old) first.block (blocks_for (length segment.now)) }
+        ensures rest { result.block ≡ walk (links self.old) first.block (blocks_for (length segment.now)) }
         ensures same { links self.new ≡ links self.old }
         ensures laid { Laid (parts self.old) (parts self.new) (links self.old) first.block segment.now (blocks_for (length segment.now)) }
     {
         let mut link = first;
         for part in segment.chunks(BLOCK_OCTETS) {
-            let at = link.index();
-            let block = self.blocks[at].with(part);
-            self.blocks[at] = block;
-            link = block.next;
+            link = self.write(link, part);
         }
+        // no octets have a block too
+        if segment.is_empty() {
+            return self.follow(first, 1);
+        }
+        link
     }
 
     // Fills the memory with the first octets of a chain.

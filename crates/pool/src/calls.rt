@@ -30,6 +30,7 @@ impl Pool {
             places: [vacant; PLACES],
             chains: Blocks::new(),
             free: Link::to(0),
+            held: 0,
             used: [0; SLOTS],
         }
     }
@@ -85,10 +86,10 @@ impl Pool {
         let mut joined = [0u8; MOST_OCTETS];
         segment.write_to(&mut joined);
         let first = self.free;
-        self.chains.lay(first, &joined[..count]);
-        self.free = self.chains.follow(first, cost);
+        self.free = self.chains.lay(first, &joined[..count]);
         let lengths = segment.lengths();
         self.places[slot * NUMBERS + number] = Some(Stored { lengths, first });
+        self.held += cost;
         self.used[slot] += cost;
     }
 
@@ -106,6 +107,7 @@ impl Pool {
         self.chains.link_end(stored.first, cost, self.free);
         self.free = stored.first;
         self.places[i] = None;
+        self.held -= cost;
         self.used[slot] -= cost;
     }
 
@@ -171,7 +173,7 @@ impl Store for Pool {
     }
 
     fn units_held(&self) -> usize {
-        self.used.iter().sum()
+        self.held
     }
 
     fn units_of(&self, slot: usize) -> Result<usize, StoreFault> {

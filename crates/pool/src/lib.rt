@@ -16,15 +16,17 @@ pub mod numbers;
 mod stored;
 
 // What stands at each place, the blocks of all places, the first free block,
-// and the blocks in use of each slot. The free blocks are a chain.
+// and the blocks in use, of all slots and of each. The free blocks are a chain.
 #[derive(Drop)]
 pub struct Pool {
     places: [Option<Stored>; PLACES],
     chains: Blocks,
     free: Link,
+    held: usize,
     used: [usize; SLOTS],
     ghost all: { length places ≡ place_count },
     ghost slots: { length used ≡ slot_count },
+    ghost kept: { held ≡ in_use (parts chains) (links chains) places },
     ghost within: { in_use (parts chains) (links chains) places ≤ block_count },
     ghost apart: { Apart (links chains) (head places free.block) (size places (in_use (parts chains) (links chains) places)) },
     ghost counted: { Counted blocks_for (held_in (parts chains) (links chains) places) used },

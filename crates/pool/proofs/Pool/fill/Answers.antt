@@ -1,13 +1,14 @@
-use Rattle.std.proofs.Common.{◌≡◌, ◌+◌, ◌*◌, length, refl, ap, ◌∙◌, arith}
+use Rattle.std.proofs.Common.{◌≡◌, ◌+◌, ◌*◌, length, sym, refl, ap, ◌∙◌, arith}
 use Rattle.store.specs.Meaning.{content, count}
 use Rattle.store.proofs.Places.{There}
 use Rattle.store.proofs.Standing.{length-octets}
 use Rattle.pool.specs.Numbers.{slot_count, place_count, blocks_for}
+use Rattle.pool.specs.Chains.{links, walk}
 use Rattle.pool.proofs.Keeping.{joined, laid_octets, sound, slot_used, filled_kept, filled_holding}
 use Rattle.pool.proofs.Pool.fill.Goals as goal
 
-pub lay-requires : goal.lay-requires
-lay-requires c i j h l z =
+pub lay-self-requires : goal.lay-self-requires
+lay-self-requires c i j h l z =
     let seg = content c.args.segment in
     let x = joined seg _ c.write_to.new.memory c.octet_count-count.result c.requires.short c.write_to.ensures c.octet_count-count.ensures in
     let e : length _ ≡ count seg = ap length x ∙ length-octets seg in
@@ -15,7 +16,10 @@ lay-requires c i j h l z =
     ((sound c.args.self.now).apart place_count place_count i j (omega arith) (omega arith) z).1
 
 pub overflow_add-self : goal.overflow_add-self
-overflow_add-self c = omega (arith, slot_used c.args.self.now c.args.slot c.requires.low, c.args.self.now.within, c.requires.room, c.blocks_for-cost.ensures)
+overflow_add-self c = omega (arith, c.args.self.now.kept, c.args.self.now.within, c.requires.room, c.blocks_for-cost.ensures)
+
+pub overflow_add-self-2 : goal.overflow_add-self-2
+overflow_add-self-2 c = omega (arith, slot_used c.args.self.now c.args.slot c.requires.low, c.args.self.now.within, c.requires.room, c.blocks_for-cost.ensures)
 
 pub invariant_of-self-2 : goal.invariant_of-self-2
 invariant_of-self-2 c =
@@ -24,8 +28,9 @@ invariant_of-self-2 c =
     let x = joined seg _ c.write_to.new.memory c.octet_count-count.result c.requires.short c.write_to.ensures c.octet_count-count.ensures in
     let t : There slot_count c.args.slot c.args.number (c.args.slot * 64 + c.args.number) = record { low = c.requires.low; few = c.requires.few; is = refl } in
     let k = c.blocks_for-cost.ensures ∙ ap (λ z. blocks_for z) c.octet_count-count.ensures in
-    let kept = filled_kept p c.args.slot c.args.number _ t c.requires.vacant seg _ c.lengths-lengths.ensures refl c.blocks_for-cost.result k (omega (arith, c.requires.room)) _ (laid_octets _ _ _ _ seg _ _ x k c.lay.ensures.laid) _ _ c.lay.ensures.same c.follow-self.ensures in
-    record { all = kept.all; slots = kept.slots; within = kept.within; apart = kept.apart; counted = kept.counted }
+    let rest = c.lay-self.ensures.rest ∙ ap (λ z. walk (links p.chains) p.free.block (blocks_for (length z))) x ∙ ap (λ z. walk (links p.chains) p.free.block (blocks_for z)) (length-octets seg) ∙ ap (walk (links p.chains) p.free.block) (sym k) in
+    let kept = filled_kept p c.args.slot c.args.number _ t c.requires.vacant seg _ c.lengths-lengths.ensures refl c.blocks_for-cost.result k (omega (arith, c.requires.room)) _ (laid_octets _ _ _ _ seg _ _ x k c.lay-self.ensures.laid) _ _ c.lay-self.ensures.same rest in
+    record { all = kept.all; slots = kept.slots; kept = kept.kept; within = kept.within; apart = kept.apart; counted = kept.counted }
 
 pub returns : goal.returns
 returns c =
@@ -34,4 +39,4 @@ returns c =
     let x = joined seg _ c.write_to.new.memory c.octet_count-count.result c.requires.short c.write_to.ensures c.octet_count-count.ensures in
     let t : There slot_count c.args.slot c.args.number (c.args.slot * 64 + c.args.number) = record { low = c.requires.low; few = c.requires.few; is = refl } in
     let k = c.blocks_for-cost.ensures ∙ ap (λ z. blocks_for z) c.octet_count-count.ensures in
-    filled_holding p c.args.slot c.args.number _ t c.requires.vacant seg _ c.lengths-lengths.ensures refl c.blocks_for-cost.result k (omega (arith, c.requires.room)) _ (laid_octets _ _ _ _ seg _ _ x k c.lay.ensures.laid) _ c.lay.ensures.same
+    filled_holding p c.args.slot c.args.number _ t c.requires.vacant seg _ c.lengths-lengths.ensures refl c.blocks_for-cost.result k (omega (arith, c.requires.room)) _ (laid_octets _ _ _ _ seg _ _ x k c.lay-self.ensures.laid) _ c.lay-self.ensures.same

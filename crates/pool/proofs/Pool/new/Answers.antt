@@ -1,4 +1,4 @@
-use Rattle.std.proofs.Common.{refl, arith}
+use Rattle.std.proofs.Common.{sym, refl, arith}
 use Rattle.pool.specs.Numbers.{place_count}
 use Rattle.pool.specs.Chains.{links, parts}
 use Rattle.pool.proofs.Fresh.{new_apart, new_held, new_units, new_counted}
@@ -11,6 +11,7 @@ invariant_of-result c =
     let units = new_units _ held in record {
       all = refl;
       slots = refl;
+      kept = sym units;
       within = omega (arith, units);
       apart = new_apart (links b) c.new.ensures place_count c.to.result.block _ c.to.ensures units;
       counted = new_counted _ held;
