@@ -17,14 +17,12 @@ use Rattle.pool.proofs.Held.{held_taken, paid_laid}
 use Rattle.pool.proofs.Links.{disjoint, apart_from}
 use Rattle.pool.proofs.Moves.{Sound, filled_apart, filled_held, released_apart, released_held}
 
--- the facts of a pool's fields, and what it holds then
-pub record Kept (ps : List (Option Stored)) (octs : List (List ℕ)) (next : List ℕ) (free held : ℕ) (used : List ℕ) : Type 0 where
+-- the facts of a pool's places, its blocks and the free ones, with so many blocks in use
+pub record Kept (ps : List (Option Stored)) (octs : List (List ℕ)) (next : List ℕ) (free used : ℕ) : Type 0 where
   pub all : length ps ≡ place_count
-  pub slots : length used ≡ slot_count
-  pub kept : held ≡ in_use octs next ps
+  pub kept : in_use octs next ps ≡ used
   pub within : in_use octs next ps ≤ block_count
   pub apart : Apart next (head ps free) (size ps (in_use octs next ps))
-  pub counted : Counted blocks_for (held_in octs next ps) used
 
 -- the octets of a segment that was written to the start of a memory
 pub joined : (seg : Content) (m m' : List ℕ) (n : ℕ) → count seg ≤ length m → m' ≡ spread seg m → n ≡ count seg → take n m' ≡ octets seg
@@ -72,26 +70,28 @@ module _ (p : Pool) (slot n i : ℕ) (t : There slot_count slot n i) where
         let o : paid blocks_for (holding p slot n) ≡ 0 = ap (paid blocks_for) none in
         ap (units pool_shape) came ∙ omega arith
 
-    kept_more : Kept (set p.places i (Some q)) octs (links p.chains) (walk (links p.chains) p.free.block k) (p.held + k) (set p.used slot (get_or p.used slot 0 + k))
+    kept_more : Kept (set p.places i (Some q)) octs (links p.chains) (walk (links p.chains) p.free.block k) (p.held + k)
     kept_more =
         let ps = set p.places i (Some q) in
         let first = walk (links p.chains) p.free.block k in
-        let o : paid blocks_for (holding p slot n) ≡ 0 = ap (paid blocks_for) none in
         let P : ℕ → Type 0 = λ z. Apart (links p.chains) (head ps first) (size ps z) in
         record {
           all = length-set p.places i _ ∙ p.all;
-          slots = length-set p.used slot _ ∙ p.slots;
           kept = omega (arith, more, p.kept);
           within = omega (arith, more, p.within);
           apart = subst P (sym more) (apart_from (links p.chains) (head ps first) (size ps (units pool_shape (holding p) + k)) (filled_apart p.places (parts p.chains) octs (links p.chains) p.free.block (units pool_shape (holding p)) (sound p) slot n i t (vacant_at none) seg q m f k c room laid));
-          counted = counted_held blocks_for _ _ _ came (counted_replaced blocks_for (holding p) slot n (Some seg) p.used (get_or p.used slot 0 + k) (omega (arith, t.low, p.slots)) t.few p.counted (omega arith));
         }
 
     pub filled_holding : (next : List ℕ) → next ≡ links p.chains → held_in octs next (set p.places i (Some q)) ≡ replaced (holding p) slot n (Some seg)
     filled_holding next e = rw e came
 
-    pub filled_kept : (next : List ℕ) (free : ℕ) → next ≡ links p.chains → free ≡ walk (links p.chains) p.free.block k → Kept (set p.places i (Some q)) octs next free (p.held + k) (set p.used slot (get_or p.used slot 0 + k))
+    pub filled_kept : (next : List ℕ) (free : ℕ) → next ≡ links p.chains → free ≡ walk (links p.chains) p.free.block k → Kept (set p.places i (Some q)) octs next free (p.held + k)
     filled_kept next free e g = rw (e, g) kept_more
+
+    pub filled_counted : (next : List ℕ) (u : ℕ) → next ≡ links p.chains → u ≡ get_or p.used slot 0 + k → Counted blocks_for (held_in octs next (set p.places i (Some q))) (set p.used slot u)
+    filled_counted next u e is =
+        let o : paid blocks_for (holding p slot n) ≡ 0 = ap (paid blocks_for) none in
+        counted_held blocks_for _ _ _ (filled_holding next e) (counted_replaced blocks_for (holding p) slot n (Some seg) p.used u (omega (arith, t.low, p.slots)) t.few p.counted (omega arith))
 
   -- a segment went
   module _ (q : Stored) (e : stored p.places i ≡ Some q) (k : ℕ) (c : k ≡ blocks_for (count_of q.lengths)) where
@@ -121,22 +121,24 @@ module _ (p : Pool) (slot n i : ℕ) (t : There slot_count slot n i) where
         let u = units-replaced pool_shape (holding p) slot n None t.low t.few in
         ap (units pool_shape) gone ∙ omega (arith, paid_k)
 
-    kept_less : Kept (set p.places i None) (parts p.chains) (set (links p.chains) (walk (links p.chains) q.first.block (k - 1)) p.free.block) q.first.block (p.held - k) (set p.used slot (get_or p.used slot 0 - k))
+    kept_less : Kept (set p.places i None) (parts p.chains) (set (links p.chains) (walk (links p.chains) q.first.block (k - 1)) p.free.block) q.first.block (p.held - k)
     kept_less =
         let ps = set p.places i None in
         let next = set (links p.chains) (walk (links p.chains) q.first.block (k - 1)) p.free.block in
         let P : ℕ → Type 0 = λ z. Apart next (head ps q.first.block) (size ps z) in
         record {
           all = length-set p.places i _ ∙ p.all;
-          slots = length-set p.used slot _ ∙ p.slots;
           kept = omega (arith, less, p.kept, in_all);
           within = omega (arith, less, p.within);
           apart = subst P (sym less) (apart_from next (head ps q.first.block) (size ps (units pool_shape (holding p) - k)) (released_apart p.places (parts p.chains) (links p.chains) p.free.block (units pool_shape (holding p)) (sound p) slot n i t q e k c in_all inside));
-          counted = counted_held blocks_for _ _ _ gone (counted_replaced blocks_for (holding p) slot n None p.used (get_or p.used slot 0 - k) (omega (arith, t.low, p.slots)) t.few p.counted (omega (arith, paid_k, enough_in)));
         }
 
     pub released_holding : (octs : List (List ℕ)) (next : List ℕ) → octs ≡ parts p.chains → next ≡ set (links p.chains) (walk (links p.chains) q.first.block (k - 1)) p.free.block → held_in octs next (set p.places i None) ≡ replaced (holding p) slot n None
     released_holding octs next a b = rw (a, b) gone
 
-    pub released_kept : (octs : List (List ℕ)) (next : List ℕ) → octs ≡ parts p.chains → next ≡ set (links p.chains) (walk (links p.chains) q.first.block (k - 1)) p.free.block → Kept (set p.places i None) octs next q.first.block (p.held - k) (set p.used slot (get_or p.used slot 0 - k))
+    pub released_kept : (octs : List (List ℕ)) (next : List ℕ) → octs ≡ parts p.chains → next ≡ set (links p.chains) (walk (links p.chains) q.first.block (k - 1)) p.free.block → Kept (set p.places i None) octs next q.first.block (p.held - k)
     released_kept octs next a b = rw (a, b) kept_less
+
+    pub released_counted : (octs : List (List ℕ)) (next : List ℕ) (u : ℕ) → octs ≡ parts p.chains → next ≡ set (links p.chains) (walk (links p.chains) q.first.block (k - 1)) p.free.block → u + k ≡ get_or p.used slot 0 → Counted blocks_for (held_in octs next (set p.places i None)) (set p.used slot u)
+    released_counted octs next u a b is =
+        counted_held blocks_for _ _ _ (released_holding octs next a b) (counted_replaced blocks_for (holding p) slot n None p.used u (omega (arith, t.low, p.slots)) t.few p.counted (omega (arith, paid_k)))
