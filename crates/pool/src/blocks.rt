@@ -92,7 +92,7 @@ impl Blocks {
     }
 
     // The block that is reached from the first one after so many links.
-    pub(crate) fn follow(&self, first: Link, count: usize) -> Link
+    fn follow(&self, first: Link, count: usize) -> Link
         ensures { result.block ≡ walk (links self.now) first.block count }
     {
         let mut link = first;
@@ -137,7 +137,7 @@ impl Blocks {
         for part in segment.chunks(BLOCK_OCTETS) {
             link = self.write(link, part);
         }
-        // no octets have a block too
+        // a segment without octets has a block too
         if segment.is_empty() {
             return self.follow(first, 1);
         }
