@@ -1,50 +1,13 @@
 -- The units held: a berth that is taken is one.
-use Rattle.std.proofs.Common.{◌≡◌, ℕ, zero, suc, ◌-◌, ◌*◌, ◌<◌, ◌≤◌, false, cond, is_some, List, [], ◌∷◌, length, get_or, take, drop, Some, None, Option, sym, refl, ap, ◌∙◌, arith, suc-mul, take-add, take-suc}
-use Rattle.std.specs.List.{count_by}
-use Rattle.std.proofs.lemmas.List.{get_or-drop, take_all, length-drop}
-use Rattle.std.proofs.lemmas.List.Sums.{sum_by-append}
-use borrow.Rule.Slice.PartMut.{mid_of}
-use Rattle.store.specs.Meaning.{Content, Held, paid, replaced, sum_below, slot_units, units}
+use Rattle.std.proofs.Common.{◌≡◌, ℕ, ◌+◌, ◌-◌, ◌<◌, ◌≤◌, true, false, eqb, is_some, List, length, replicate, set, Some, sym, refl, ap, ◌∙◌, ⊎_elim, arith}
+use Rattle.std.proofs.lemmas.Bool.{cases_eq, eq-eqb, ne_eqb}
+use Rattle.std.proofs.lemmas.List.{get_or-replicate, get_or-set_same, get_or-set_other, length-set}
+use Rattle.store.specs.Meaning.{Content, Held, Counted, nothing, paid, replaced, sum_below, slot_units, units, without_slot}
 use Rattle.store.specs.Numbers.{number_count}
-use Rattle.store.specs.Outcomes.{index}
 use Rattle.store.proofs.Changes.{none_if}
-use Rattle.store.proofs.Sums.{units-replaced}
-use Rattle.berths.specs.declared.berth.Berth.{Berth}
+use Rattle.store.proofs.Sums.{slot_nothing, sum_none, sum_same, units-replaced}
 use Rattle.berths.specs.Numbers.{slot_count, berth_count, one, berths_shape}
-use Rattle.berths.specs.Berthed.{empty, lies, taken, held_in}
-use Rattle.berths.specs.Laws.{held_at, units_most}
-
-paid_is : (o : Option Content) → paid one o ≡ cond (is_some o) 1 0
-paid_is None = refl
-paid_is (Some seg) = refl
-
--- the berths of a slot, and of the slots below another
-slot_counted : (bs : List Berth) (slot k : ℕ) → length bs ≡ berth_count → slot < slot_count → k ≤ number_count → count_by taken (take k (drop (slot * 64) bs)) ≡ sum_below (λ n. paid one (held_in bs slot n)) k
-unfolding sum_below
-slot_counted bs slot zero all low few = refl
-slot_counted bs slot (suc k) all low few =
-    let row = drop (slot * 64) bs in
-    let b = get_or row k empty in
-    let long = length-drop (slot * 64) bs in
-    let before = slot_counted bs slot k all low (omega arith) in
-    let is : paid one (held_in bs slot k) ≡ cond (taken b) 1 0 = paid_is (held_in bs slot k) ∙ ap (λ o. cond (is_some o) 1 0) (held_at bs slot k (index slot k) (record { low = low; few = omega arith; is = refl }) ∙ ap lies (sym (get_or-drop (slot * 64) bs k empty))) in
-    let cut = ap (count_by taken) (take-suc row k empty (omega arith)) ∙ sum_by-append (λ x. cond (taken x) 1 0) (take k row) (b ∷ []) in
-    omega (arith, cut)
-
-pub part_counted : (bs : List Berth) (slot m : ℕ) → length bs ≡ berth_count → slot < slot_count → m ≡ number_count → count_by taken (mid_of (slot * 64) m bs) ≡ slot_units one (held_in bs) slot
-part_counted bs slot m all low e = ap (λ z. count_by taken (take z (drop (slot * 64) bs))) e ∙ slot_counted bs slot number_count all low (omega arith)
-
-below_counted : (bs : List Berth) (s : ℕ) → length bs ≡ berth_count → s ≤ slot_count → count_by taken (take (s * 64) bs) ≡ sum_below (slot_units one (held_in bs)) s
-unfolding sum_below
-below_counted bs zero all low = refl
-below_counted bs (suc s) all low =
-    let before = below_counted bs s all (omega arith) in
-    let row = slot_counted bs s number_count all (omega arith) (omega arith) in
-    let cut = ap (λ n. count_by taken (take n bs)) (suc-mul s 64) ∙ ap (count_by taken) (take-add (s * 64) 64 bs) ∙ sum_by-append (λ x. cond (taken x) 1 0) (take (s * 64) bs) (take 64 (drop (s * 64) bs)) in
-    omega (arith, cut)
-
-pub all_counted : (bs : List Berth) → length bs ≡ berth_count → count_by taken bs ≡ units berths_shape (held_in bs)
-all_counted bs all = ap (count_by taken) (sym (take_all berth_count bs (omega arith))) ∙ below_counted bs slot_count all (omega arith)
+use Rattle.berths.specs.Laws.{units_most}
 
 -- where nothing is held at a place, a unit is free
 pub one_free : (h : Held) (slot n : ℕ) (seg : Content) → slot < slot_count → n < number_count → is_some (h slot n) ≡ false → 1 ≤ berth_count - units berths_shape h
@@ -53,3 +16,29 @@ one_free h slot n seg low few e =
     let t = units-replaced berths_shape h slot n (Some seg) low few in
     let m = units_most (replaced h slot n (Some seg)) in
     omega arith
+
+-- the units of all slots
+three : (f : ℕ → ℕ) → sum_below f slot_count ≡ f 0 + f 1 + f 2
+unfolding sum_below
+three f = omega arith
+
+pub units_three : (h : Held) → units berths_shape h ≡ slot_units one h 0 + slot_units one h 1 + slot_units one h 2
+units_three h = three (slot_units one h)
+
+-- new berths count none
+pub new_counted : (h : Held) → h ≡ nothing → Counted one h (replicate slot_count 0)
+new_counted h e slot low = get_or-replicate slot_count slot 0 0 low ∙ sym (slot_nothing one slot) ∙ ap (λ z. slot_units one z slot) (sym e)
+
+-- nor does a slot that holds nothing any more
+pub counted_without : (h : Held) (slot : ℕ) (used : List ℕ) → slot < length used → Counted one h used → Counted one (without_slot h slot) (set used slot 0)
+counted_without h slot used low c s within =
+    ⊎_elim
+    (λ (q : s ≡ slot).
+    let self : eqb slot slot ≡ true = eq-eqb slot slot refl in
+    let none : slot_units one (without_slot h slot) slot ≡ 0 = sum_same (λ _. 0) (λ n. paid one (without_slot h slot slot n)) number_count (λ n m. rw self) ∙ sum_none number_count in
+    rw q (get_or-set_same used slot 0 0 low ∙ sym none))
+    (λ (q : s ≡ slot → ⊥).
+    let other = ne_eqb s slot q in
+    let inside : s < length used = rw length-set at within in
+    get_or-set_other used slot s 0 0 q ∙ c s inside ∙ sym (sum_same (λ n. paid one (h s n)) (λ n. paid one (without_slot h slot s n)) number_count (λ n m. rw other)))
+    (cases_eq s slot)

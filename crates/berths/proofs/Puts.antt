@@ -1,10 +1,12 @@
 -- What putting answers.
-use Rattle.std.proofs.Common.{◌≡◌, ℕ, ◌-◌, ◌≤◌, false, List, length, get_or, is_some, set, Some, Ok, sym, ap}
-use Rattle.store.specs.Meaning.{Content, units, with_segment}
+use Rattle.std.proofs.Common.{◌≡◌, ℕ, ◌+◌, ◌-◌, ◌≤◌, false, List, length, get_or, is_some, set, Some, Ok, sym, ap, ◌∙◌, arith}
+use Rattle.store.specs.Meaning.{Content, Counted, paid, replaced, units, with_segment}
 use Rattle.store.specs.Outcomes.{judged_place}
+use Rattle.store.proofs.Changes.{none_if}
 use Rattle.store.proofs.Places.{there}
+use Rattle.store.proofs.Sums.{counted_held, counted_replaced}
 use Rattle.berths.specs.declared.berth.Berth.{Berth}
-use Rattle.berths.specs.Numbers.{slot_count, berth_count, berths_shape}
+use Rattle.berths.specs.Numbers.{slot_count, berth_count, one, berths_shape}
 use Rattle.berths.specs.Berthed.{lies, taken, held_in}
 use Rattle.berths.proofs.Rows.{read_at, held_set}
 use Rattle.berths.proofs.Counts.{one_free}
@@ -16,4 +18,11 @@ pub room_at : (bs : List Berth) (slot n i : ℕ) (seg : Content) → Ok i ≡ ju
 room_at bs slot n i seg p none = let t = there slot_count slot n i p in one_free (held_in bs) slot n seg t.low t.few none
 
 pub laid_at : (bs : List Berth) (slot n i : ℕ) (b : Berth) (seg : Content) → length bs ≡ berth_count → Ok i ≡ judged_place slot_count slot n → lies b ≡ Some seg → held_in (set bs i b) ≡ with_segment (held_in bs) slot n seg
-laid_at bs slot n i b seg all p e = held_set bs slot n i b seg all (there slot_count slot n i p) e
+laid_at bs slot n i b seg all p e = held_set bs slot n i b all (there slot_count slot n i p) ∙ ap (replaced (held_in bs) slot n) e
+
+-- the count of the slot is one more
+pub laid_counted : (bs : List Berth) (used : List ℕ) (slot n i : ℕ) (b : Berth) (seg : Content) → length bs ≡ berth_count → length used ≡ slot_count → Ok i ≡ judged_place slot_count slot n → is_some (held_in bs slot n) ≡ false → lies b ≡ Some seg → Counted one (held_in bs) used → Counted one (held_in (set bs i b)) (set used slot (get_or used slot 0 + 1))
+laid_counted bs used slot n i b seg all slots p none e c =
+    let t = there slot_count slot n i p in
+    let unpaid : paid one (held_in bs slot n) ≡ 0 = ap (paid one) (none_if (held_in bs slot n) none) in
+    counted_held one _ _ _ (laid_at bs slot n i b seg all p e) (counted_replaced one (held_in bs) slot n (Some seg) used (get_or used slot 0 + 1) (omega (arith, t.low)) t.few c (omega arith))

@@ -1,10 +1,10 @@
 -- What the berths hold, after a berth or a slot of them is written.
-use Rattle.std.proofs.Common.{◌≡◌, ℕ, ◌+◌, ◌-◌, ◌*◌, ◌<◌, ◌≤◌, Bool, true, false, cond, ◌&&◌, List, length, drop, get_or, set, replicate, eqb, Some, None, Ok, Option, sym, refl, ap, ◌∙◌, ⊎_elim, arith, rules}
+use Rattle.std.proofs.Common.{◌≡◌, ℕ, ◌+◌, ◌-◌, ◌*◌, ◌<◌, ◌≤◌, Bool, true, false, cond, ◌&&◌, List, length, drop, get_or, set, replicate, eqb, None, Ok, Option, sym, refl, ap, ◌∙◌, ⊎_elim, arith, rules}
 use Rattle.std.proofs.Math.Path.{fun_ext}
-use Rattle.std.proofs.lemmas.List.{get_or_read, get_or-set_same, get_or-set_other, get_or-replicate, length-drop, length-replicate, length-take-le, places}
+use Rattle.std.proofs.lemmas.List.{get_or_read, get_or-set_same, get_or-set_other, get_or-replicate, length-drop, length-take-le, places}
 use Rattle.std.proofs.lemmas.Bool.{cases_eq, cases_lt, eq-eqb, ne_eqb, and_left, and_right}
 use borrow.Rule.Slice.PartMut.{mid_of, put_mid}
-use Rattle.store.specs.Meaning.{Content, Held, nothing, with_segment, without_slot}
+use Rattle.store.specs.Meaning.{Content, Held, nothing, replaced, without_slot}
 use Rattle.store.specs.Numbers.{number_count}
 use Rattle.store.specs.Outcomes.{index, judged_place, at_place}
 use Rattle.store.proofs.Places.{There, there, at_there}
@@ -47,9 +47,9 @@ not_both s slot k n differ =
     (cases_eq s slot)
 
 -- one berth is written
-pub held_set : (bs : List Berth) (slot n i : ℕ) (b : Berth) (seg : Content) → length bs ≡ berth_count → There slot_count slot n i → lies b ≡ Some seg → held_in (set bs i b) ≡ with_segment (held_in bs) slot n seg
-held_set bs slot n i b seg all t e =
-    held_is (set bs i b) (with_segment (held_in bs) slot n seg)
+pub held_set : (bs : List Berth) (slot n i : ℕ) (b : Berth) → length bs ≡ berth_count → There slot_count slot n i → held_in (set bs i b) ≡ replaced (held_in bs) slot n (lies b)
+held_set bs slot n i b all t =
+    held_is (set bs i b) (replaced (held_in bs) slot n (lies b))
     (λ s k p. let no = not_both s slot k n (λ x y. omega (arith, t.low)) in rw no (beyond bs s k p))
     (λ s k q. let no = not_both s slot k n (λ x y. omega (arith, t.few)) in rw no (past bs s k q))
     (λ s k p q. ⊎_elim
@@ -58,7 +58,7 @@ held_set bs slot n i b seg all t e =
     let z : k ≡ n = omega (arith, t.few, t.is) in
     let u : eqb slot slot ≡ true = eq-eqb slot slot refl in
     let v : eqb n n ≡ true = eq-eqb n n refl in
-    rw (x, z, u, v) (ap (λ j. lies (berth (set bs i b) j)) (sym t.is) ∙ ap lies (get_or-set_same bs i b empty (omega (arith, t.low, t.few, t.is))) ∙ e))
+    rw (x, z, u, v) (ap (λ j. lies (berth (set bs i b) j)) (sym t.is) ∙ ap lies (get_or-set_same bs i b empty (omega (arith, t.low, t.few, t.is)))))
     (λ (y : index s k ≡ i → ⊥).
     let no = not_both s slot k n (λ x z. y (omega (arith, t.is))) in
     rw no (ap lies (get_or-set_other bs i (index s k) b empty y) ∙ sym (held_at bs s k (index s k) (record { low = p; few = q; is = refl }))))
@@ -79,12 +79,11 @@ module _ (a k : ℕ) (xs ys : List Berth) (i : ℕ) (d : Berth) (fits : a + k �
   mid_past h = search (rules, places)
 
 -- the berths of a slot are vacant now
-pub held_cleared : (bs ys : List Berth) (slot m : ℕ) (b : Berth) → length bs ≡ berth_count → slot < slot_count → m ≡ number_count → ys ≡ replicate (length (mid_of (slot * 64) m bs)) b → lies b ≡ None → held_in (put_mid (slot * 64) m bs ys) ≡ without_slot (held_in bs) slot
-held_cleared bs ys slot m b all low e is none =
+pub held_cleared : (bs ys : List Berth) (slot m n : ℕ) → length bs ≡ berth_count → slot < slot_count → m ≡ number_count → length ys ≡ length (mid_of (slot * 64) m bs) → length (mid_of (slot * 64) m bs) ≤ n → ((j : ℕ) → j < n → lies (berth ys j) ≡ None) → held_in (put_mid (slot * 64) m bs ys) ≡ without_slot (held_in bs) slot
+held_cleared bs ys slot m n all low e same done vacant =
     let fits : slot * 64 + m ≤ length bs = omega arith in
     let part = length_mid (slot * 64) m bs fits in
-    let long : length ys ≡ m = ap length is ∙ length-replicate _ b ∙ part in
-    let vacant = λ (j : ℕ) (h : j < m). ap (λ l. lies (berth l j)) is ∙ ap lies (get_or-replicate (length (mid_of (slot * 64) m bs)) j b empty (omega (arith, part))) ∙ none in
+    let long : length ys ≡ m = same ∙ part in
     held_is (put_mid (slot * 64) m bs ys) (without_slot (held_in bs) slot)
     (λ s k p. none_in (eqb s slot) (held_in bs s k) (beyond bs s k p))
     (λ s k q. none_in (eqb s slot) (held_in bs s k) (past bs s k q))

@@ -55,4 +55,11 @@ impl Berth {
         self.lengths = Some(segment.lengths());
         segment.write_to(&mut self.octets);
     }
+
+    // Holds nothing from now on.
+    pub fn clear(&mut self)
+        ensures { lies self.new ≡ None }
+    {
+        self.lengths = None;
+    }
 }

@@ -1,12 +1,11 @@
 // The calls of the berths.
 ghost use Rattle.std.specs.Prelude.{◌≡◌, ◌<◌, Ok};
-ghost use Rattle.std.specs.List.{count_by};
 ghost use Rattle.std.specs.Option.{option_map};
 ghost use Rattle.std.specs.Result.{result_map_both};
-ghost use Rattle.store.specs.Meaning.{content, nothing, slot_units, without_slot};
+ghost use Rattle.store.specs.Meaning.{content, nothing, without_slot};
 ghost use Rattle.store.specs.Outcomes.{at_place, look_up};
-ghost use Rattle.berths.specs.Numbers.{berths_shape, one, slot_count};
-ghost use Rattle.berths.specs.Berthed.{held_in, taken};
+ghost use Rattle.berths.specs.Numbers.{berths_shape, slot_count};
+ghost use Rattle.berths.specs.Berthed.{held_in};
 ghost use Rattle.berths.specs.Holding.{holding};
 ghost use Rattle.berths.specs.Laws;
 ghost use Rattle.berths.specs.Laws.{units_most, all_placed};
@@ -27,6 +26,7 @@ impl Berths {
         let vacant = Berth::vacant();
         Berths {
             berths: [vacant; BERTHS],
+            used: [0; SLOTS],
         }
     }
 
@@ -53,25 +53,11 @@ impl Berths {
         ensures { holding self.new ≡ without_slot (holding self.old) slot }
     {
         let first = slot * NUMBERS;
-        self.berths[first..first + NUMBERS].fill(Berth::vacant());
+        for berth in self.berths[first..first + NUMBERS].iter_mut() {
+            berth.clear();
+        }
+        self.used[slot] = 0;
     }
-
-    // How many segments a slot holds.
-    #[tactic(auto, using(crate::proofs::Counts::part_counted))]
-    fn count(&self, slot: usize) -> usize
-        requires { slot < slot_count }
-        ensures { result ≡ slot_units one (holding self.now) slot }
-    {
-        let first = slot * NUMBERS;
-        count_taken(&self.berths[first..first + NUMBERS])
-    }
-}
-
-// How many berths hold a segment.
-fn count_taken(berths: &[Berth]) -> usize
-    ensures { result ≡ count_by taken berths.now }
-{
-    berths.iter().filter(|berth| berth.is_taken()).count()
 }
 
 impl Store for Berths {
@@ -91,7 +77,9 @@ impl Store for Berths {
         check_octets(segment.octet_count())?;
         check_vacant(self.berths[i].is_taken())?;
         // a berth is a unit, so one is free
-        self.berths[i].lay(segment);
+        let Berths { berths, used } = self;
+        berths[i].lay(segment);
+        used[place.slot] += 1;
         Ok(())
     }
 
@@ -103,7 +91,9 @@ impl Store for Berths {
     }
 
     fn drop_all(&mut self) {
-        self.berths.fill(Berth::vacant());
+        for slot in 0..SLOTS {
+            self.clear(slot);
+        }
     }
 
     fn slots(&self) -> usize {
@@ -119,14 +109,13 @@ impl Store for Berths {
         Ok(1)
     }
 
-    #[tactic(auto, using(crate::proofs::Counts::all_counted))]
     fn units_held(&self) -> usize {
-        count_taken(&self.berths)
+        self.used[0] + self.used[1] + self.used[2]
     }
 
     fn units_of(&self, slot: usize) -> Result<usize, StoreFault> {
         check_slot(SLOTS, slot)?;
-        Ok(self.count(slot))
+        Ok(self.used[slot])
     }
 
     fn is_held(&self, place: Place) -> Result<bool, StoreFault> {
