@@ -30,15 +30,15 @@ pub new_counted : (h : Held) → h ≡ nothing → Counted one h (replicate slot
 new_counted h e slot low = get_or-replicate slot_count slot 0 0 low ∙ sym (slot_nothing one slot) ∙ ap (λ z. slot_units one z slot) (sym e)
 
 -- nor does a slot that holds nothing any more
-pub counted_without : (h : Held) (slot : ℕ) (used : List ℕ) → slot < length used → Counted one h used → Counted one (without_slot h slot) (set used slot 0)
-counted_without h slot used low c s within =
+pub counted_without : (h : Held) (slot n : ℕ) (used : List ℕ) → slot < length used → n ≡ 0 → Counted one h used → Counted one (without_slot h slot) (set used slot n)
+counted_without h slot n used low e c s within =
     ⊎_elim
     (λ (q : s ≡ slot).
     let self : eqb slot slot ≡ true = eq-eqb slot slot refl in
-    let none : slot_units one (without_slot h slot) slot ≡ 0 = sum_same (λ _. 0) (λ n. paid one (without_slot h slot slot n)) number_count (λ n m. rw self) ∙ sum_none number_count in
-    rw q (get_or-set_same used slot 0 0 low ∙ sym none))
+    let none : slot_units one (without_slot h slot) slot ≡ 0 = sum_same (λ _. 0) (λ k. paid one (without_slot h slot slot k)) number_count (λ k m. rw self) ∙ sum_none number_count in
+    rw q (get_or-set_same used slot n 0 low ∙ e ∙ sym none))
     (λ (q : s ≡ slot → ⊥).
     let other = ne_eqb s slot q in
     let inside : s < length used = rw length-set at within in
-    get_or-set_other used slot s 0 0 q ∙ c s inside ∙ sym (sum_same (λ n. paid one (h s n)) (λ n. paid one (without_slot h slot s n)) number_count (λ n m. rw other)))
+    get_or-set_other used slot s n 0 q ∙ c s inside ∙ sym (sum_same (λ k. paid one (h s k)) (λ k. paid one (without_slot h slot s k)) number_count (λ k m. rw other)))
     (cases_eq s slot)

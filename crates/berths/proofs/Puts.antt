@@ -21,8 +21,8 @@ pub laid_at : (bs : List Berth) (slot n i : ℕ) (b : Berth) (seg : Content) →
 laid_at bs slot n i b seg all p e = held_set bs slot n i b all (there slot_count slot n i p) ∙ ap (replaced (held_in bs) slot n) e
 
 -- the count of the slot is one more
-pub laid_counted : (bs : List Berth) (used : List ℕ) (slot n i : ℕ) (b : Berth) (seg : Content) → length bs ≡ berth_count → length used ≡ slot_count → Ok i ≡ judged_place slot_count slot n → is_some (held_in bs slot n) ≡ false → lies b ≡ Some seg → Counted one (held_in bs) used → Counted one (held_in (set bs i b)) (set used slot (get_or used slot 0 + 1))
-laid_counted bs used slot n i b seg all slots p none e c =
+pub laid_counted : (bs : List Berth) (used : List ℕ) (slot n i k : ℕ) (b : Berth) (seg : Content) → length bs ≡ berth_count → length used ≡ slot_count → Ok i ≡ judged_place slot_count slot n → is_some (held_in bs slot n) ≡ false → lies b ≡ Some seg → k ≡ get_or used slot 0 + 1 → Counted one (held_in bs) used → Counted one (held_in (set bs i b)) (set used slot k)
+laid_counted bs used slot n i k b seg all slots p none e more c =
     let t = there slot_count slot n i p in
     let unpaid : paid one (held_in bs slot n) ≡ 0 = ap (paid one) (none_if (held_in bs slot n) none) in
-    counted_held one _ _ _ (laid_at bs slot n i b seg all p e) (counted_replaced one (held_in bs) slot n (Some seg) used (get_or used slot 0 + 1) (omega (arith, t.low)) t.few c (omega arith))
+    counted_held one _ _ _ (laid_at bs slot n i b seg all p e) (counted_replaced one (held_in bs) slot n (Some seg) used k (omega (arith, t.low)) t.few c (omega arith))

@@ -13,7 +13,7 @@ pub invariant_of-self-clause-counted : goal.invariant_of-self-clause-counted
 invariant_of-self-clause-counted c =
     let s = c.args.self.now in
     let l = c.loop-berth in
-    counted_held one _ _ _ (held_cleared s.berths l.berth-items c.args.slot _ l.berth-index s.all c.requires (omega arith) l.auto.berth-items c.loop-berth-test.false l.invariant) (counted_without (holding s) c.args.slot s.used (omega arith) s.counted)
+    counted_held one _ _ _ (held_cleared s.berths l.berth-items c.args.slot _ l.berth-index s.all c.requires (omega arith) l.auto.berth-items c.loop-berth-test.false l.invariant) (counted_without (holding s) c.args.slot _ s.used (omega arith) (omega arith) s.counted)
 
 pub returns : goal.returns
 returns c =

@@ -22,4 +22,4 @@ invariant_of-self-clause-counted c =
     let slot = c.args.place.slot in
     let n = c.args.place.number in
     let none : is_some (held_in s.berths slot n) ≡ false = grind (arith, common_steps, taken_at) in
-    laid_counted s.berths s.used slot n c.in_ok-i.i _ _ s.all s.slots c.in_ok-i.ensures none c.lay.ensures s.counted
+    laid_counted s.berths s.used slot n c.in_ok-i.i _ _ _ s.all s.slots c.in_ok-i.ensures none c.lay.ensures (omega arith) s.counted
