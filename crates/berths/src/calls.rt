@@ -83,7 +83,7 @@ impl Store for Berths {
         Ok(())
     }
 
-    // Kept: `drop_slot` and `is_held` are two lines over what this store has of its own, as in the pool.
+    // Kept: `drop_slot`, `drop_all`, `units_of` and `is_held` are a few lines over what this store has of its own, as in the pool.
     fn drop_slot(&mut self, slot: usize) -> Result<(), StoreFault> {
         check_slot(SLOTS, slot)?;
         self.clear(slot);
@@ -91,6 +91,7 @@ impl Store for Berths {
     }
 
     fn drop_all(&mut self) {
+        // Kept: the slot is what each step is given.
         for slot in 0..SLOTS {
             self.clear(slot);
         }
