@@ -1,5 +1,4 @@
 use Rattle.std.proofs.Common.{◌≡◌, false, is_some, ◌∙◌, arith, length-set}
-use Rattle.std.proofs.lemmas.Grind.{common_steps}
 use Rattle.store.proofs.Places.{there}
 use Rattle.berths.specs.Numbers.{slot_count}
 use Rattle.berths.specs.Berthed.{held_in}
@@ -21,5 +20,5 @@ invariant_of-self-clause-counted c =
     let s = c.args.self.now in
     let slot = c.args.place.slot in
     let n = c.args.place.number in
-    let none : is_some (held_in s.berths slot n) ≡ false = grind (arith, common_steps, taken_at) in
+    let none : is_some (held_in s.berths slot n) ≡ false = grind (arith, taken_at) in
     laid_counted s.berths s.used slot n c.in_ok-i.i _ _ _ s.all s.slots c.in_ok-i.ensures none c.lay.ensures (omega arith) s.counted
