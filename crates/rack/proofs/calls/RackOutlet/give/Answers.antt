@@ -10,9 +10,10 @@ use Rattle.rack.proofs.calls.RackOutlet.give.Goals as goal
 
 pub returns-clause-value : goal.returns-clause-value
 returns-clause-value c =
-    give_done rack_room (holding c.args.self.now) (outline (said c.args.w)) (sym c.in_ok-judge.ensures.value) (rw c.free-free.ensures at c.if-free-lt-COST.false)
+    let s = c.args.self.now in
+    give_done rack_room (holding s) (outline (said c.args.w)) (sym c.in_ok-judge.ensures.value) (omega (arith, units_held s))
 
 pub returns-clause-after : goal.returns-clause-after
 returns-clause-after c =
     let s = c.args.self.now in
-    lies_more s.places s.oldest s.count c.keep.new.self (said c.args.w) s.all s.low (omega (arith, c.free-free.ensures, units_held s)) c.keep.ensures
+    lies_more s.places s.oldest s.count c.keep.new.self (said c.args.w) s.all s.low (omega (arith, units_held s)) c.keep.ensures
