@@ -1,5 +1,5 @@
 -- An outline that is read is one of a warning.
-use Rattle.std.proofs.Common.{◌≡◌, ℕ, ◌≤◌, Bool, true, false, cond, not, ◌&&◌, eqb, leb, length, replicate, is_some, IfOk, Some, None, Ok, Err, Result, sym, refl, ap, ◌∙◌, ⊎_elim}
+use Rattle.std.proofs.Common.{◌≡◌, ℕ, ◌≤◌, Bool, true, false, cond, not, ◌&&◌, eqb, leb, length, replicate, is_some, Some, None, Ok, sym, refl, ap, ◌∙◌, ⊎_elim}
 use Rattle.std.proofs.lemmas.List.{length-replicate}
 use Rattle.std.proofs.lemmas.Bool.{leb-true, and_from}
 use Rattle.std.specs.Option.{option_map}
@@ -7,11 +7,9 @@ use Rattle.warning.specs.declared.Pair.{Pair}
 use Rattle.warning.specs.declared.Warning.{Warning}
 use Rattle.warning.specs.declared.Warning.TheVariants.{Primary, Message}
 use Rattle.warning.specs.Rules.{carries_message, without_area, limit, total, is_warning, right_security}
-use Rattle.tape.specs.declared.fault.TapeFault.{TapeFault}
 use Rattle.tape.specs.declared.fault.TapeFault.TheVariants.{Unknown}
-use Rattle.tape.specs.Cursors.{gave}
 use Rattle.tape.specs.Heads.{primary_outline, message_outline, head}
-use Rattle.tape.specs.Reading.{Place, Read, octet, number, number_to, pair_operands, present, most_flag, most_area}
+use Rattle.tape.specs.Reading.{Place, octet, number, number_to, pair_operands, present, most_flag, most_area}
 use Rattle.tape.proofs.Takes.{then_elim, ok_parts, octet_ok, number_to_ok}
 use Rattle.tape.proofs.Entries.{area_read, one_of_two}
 
@@ -61,8 +59,3 @@ head_right p o q e =
     (λ h. primary_right r o q h.1)
     (λ h. message_right r o q h.1)
     (one_of_two (eqb command 0x50) (eqb command 0x4D) (primary_outline r) (message_outline r) (Unknown p.at) (o, q) k))
-
--- the same, as the code reads it
-pub gives_right : (outlined : Place → Read (Warning ℕ)) → ((p : Place) (o : (Warning ℕ)) (q : Place) → outlined p ≡ Ok (o, q) → is_warning o ≡ true) → (r : Result (Warning ℕ) TapeFault) (p q : Place) → gave r q ≡ outlined p → IfOk r (λ o. is_warning o ≡ true)
-gives_right outlined right (Ok o) p q e = right p o q (sym e)
-gives_right outlined right (Err f) p q e = tt

@@ -91,6 +91,7 @@ pub fn head(cursor: &mut Cursor<'_>) -> Result<Outline, TapeFault>
 }
 
 // The octets of a part, handed on from its data commands.
+// Kept: a cursor and a count are the two arguments of this and of the calls below; a struct of both would be made for one call.
 fn part<S: Sink>(cursor: &mut Cursor<'_>, count: usize, sink: &mut S) -> Result<(), TapeFault>
     requires { S.fits sink.old count }
     ensures { Passed (λ xs. xs) (part count cursor.old) (λ xs. S.took sink.old xs sink.new) result cursor.new }

@@ -1,4 +1,4 @@
-use Rattle.std.proofs.Common.{◌≡◌, ◌*◌, ◌/◌, ◌<◌, ◌≤◌, false, [], length, get_or, drop, eqb, sym, ap, subst, ◌∙◌, arith}
+use Rattle.std.proofs.Common.{◌≡◌, ◌*◌, ◌/◌, false, [], length, get_or, drop, eqb, sym, ap, subst, ◌∙◌, arith}
 use Rattle.std.proofs.lemmas.Bool.{eqb-false, eqb-true}
 use Rattle.tape.proofs.Puts.{PutSoFar, chunk_at, full_room, full_more, last_room, last_put, all_put}
 use Rattle.tape.proofs.output.Output.put_part.Goals as goal
