@@ -1,10 +1,13 @@
 // Edges of the two lists.
-use keys::Expiry;
+ghost use Rattle.std.specs.Prelude.{nat_eq};
+ghost use Rattle.std.proofs.Common.{rules};
+
 use keys::kinds::NetworkPair;
 use keys::memory::Memory;
 use keys::numbers::EXPIRY_PERIOD;
 use keys::open_list::{OpenList, StoreFault};
 use keys::remembered::RememberedList;
+use keys::{Entry, Expiry, Key, find};
 use std::test::Fail;
 use warning::Pair;
 use warning::network::Network;
@@ -85,4 +88,40 @@ fn the_older_of_a_network_makes_way(rt: HostRuntime) -> Result<(), Fail> {
     assert!(rt; list.remembers(primary(2, 3, 0)?));
     assert_eq!(rt; list.len(), 12);
     Ok(())
+}
+
+// A key that has no `==`. Each is a group of its own.
+#[derive(Clone, Copy)]
+struct Tag {
+    number: u8,
+}
+
+impl Key for Tag {
+    ghost same = { λ x y. nat_eq x.number y.number };
+
+    ghost grouped = { λ x y. nat_eq x.number y.number };
+
+    ghost decides = { Prim.search rules };
+
+    ghost itself = { Prim.search rules };
+
+    ghost together = { Prim.search rules };
+
+    fn is(&self, other: &Tag) -> bool {
+        self.number == other.number
+    }
+
+    fn is_grouped_with(&self, other: &Tag) -> bool {
+        self.is(other)
+    }
+}
+
+#[test]
+fn a_key_needs_no_equality(rt: HostRuntime) {
+    let held = [1, 2, 3].map(|number| Entry {
+        key: Tag { number },
+        stored: 0,
+    });
+    assert_eq!(rt; find(&held, &Tag { number: 2 }), Some(1));
+    assert_eq!(rt; find(&held, &Tag { number: 4 }), None);
 }
