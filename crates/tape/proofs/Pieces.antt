@@ -1,5 +1,5 @@
 -- The data commands of a part, one at a time.
-use Rattle.std.proofs.Common.{◌≡◌, ℕ, zero, suc, ◌-◌, ◌*◌, ◌<◌, ◌≤◌, List, [], ◌++◌, length, take, drop, replicate, refl, ◌∙◌, arith}
+use Rattle.std.proofs.Common.{◌≡◌, ℕ, zero, suc, ◌-◌, ◌*◌, ◌<◌, ◌≤◌, List, [], ◌++◌, ap, ◌∷◌, length, take, drop, replicate, refl, ◌∙◌, arith}
 use Rattle.std.proofs.lemmas.List.{length-drop, length-append, length-replicate, length-take, take_all, drop_all, append-nil, drop-replicate, take-replicate}
 use Rattle.tape.specs.Format.{piece, pieces, pieces_by, commands_for, part_cost}
 
@@ -22,6 +22,12 @@ pieces_last xs h k = pieces_step xs h ∙ rw (take_all 32 xs k, drop_all 32 xs k
 
 pub length-piece : (xs : List ℕ) → length xs ≤ 32 → length (piece xs) ≡ 34
 length-piece xs h = rw (length-append, length-replicate) (omega arith)
+
+-- a full data command has no zeros past its octets
+pub full_piece : (xs : List ℕ) → length xs ≡ 32 → piece xs ≡ 0x44 ∷ 32 ∷ xs
+full_piece xs h =
+    let none : 32 - length xs ≡ 0 = omega arith in
+    ap (λ n. 0x44 ∷ n ∷ (xs ++ replicate (32 - length xs) 0)) h ∙ rw none (ap (λ ys. 0x44 ∷ 32 ∷ ys) (append-nil xs))
 
 -- zeros past a count
 pub zeros_past : (n : ℕ) → n ≤ 32 → take {A = ℕ} (32 - n) (drop n (replicate 32 0)) ≡ replicate (32 - n) 0

@@ -1,7 +1,9 @@
 -- Octets put into an output, one after another.
-use Rattle.std.proofs.Common.{◌≡◌, ℕ, zero, suc, ◌+◌, ◌-◌, ◌*◌, ◌<◌, ◌≤◌, min, List, [], ◌++◌, length, take, drop, get_or, Some, None, Ok, Option, Bor, unwrap_or, refl, sym, ap, ◌∙◌, append_assoc, append-nil, length-append, inl, inr, arith}
+use Rattle.std.proofs.Common.{◌≡◌, ℕ, zero, suc, ◌+◌, ◌-◌, ◌*◌, ◌<◌, ◌≤◌, min, List, [], ◌++◌, length, take, drop, get_or, Some, None, Ok, Option, Bor, unwrap_or, refl, sym, ap, ◌∙◌, append_assoc, append-nil, add-one, take-suc, ◌∷◌, length-append, inl, inr, arith}
 use Rattle.std.proofs.lemmas.Bool.{cases_lt}
-use Rattle.std.proofs.lemmas.List.{nil_from_length, take_at, drop_at, take-append-drop, length-take, length-drop, drop-drop}
+use Rattle.std.proofs.lemmas.Grind.{flat_map-append}
+use Rattle.std.proofs.lemmas.List.{nil_from_length, take_at, drop_at, take-append-drop, length-drop, drop-drop}
+use Rattle.std.specs.List.{flat_map}
 use Rattle.std.specs.Simd.{first_chunks}
 use Rattle.octets.specs.Octets.{written}
 use Rattle.octets.proofs.Writes.{then-written, length-written}
@@ -91,28 +93,23 @@ so_far_more start now next part rest first more (done, put, whole) fit parts siz
       append_assoc done (piece first) (pieces more) ∙ ap (λ z. done ++ z) (sym (pieces_first rest first more parts size some)) ∙ whole,
     )
 
--- a part cut into full data commands
-pub chunk_at : (k i : ℕ) (xs : List ℕ) → i < k → get_or (first_chunks 32 k xs) i [] ≡ take 32 (drop (i * 32) xs)
-chunk_at zero i xs h = absurd (omega arith)
-chunk_at (suc k) zero xs h = refl
-chunk_at (suc k) (suc i) xs h = chunk_at k i (drop 32 xs) (omega arith) ∙ ap (take 32) (drop-drop (i * 32) 32 xs ∙ ap (λ n. drop n xs) (omega arith))
+-- a part is its full data commands, and those of the rest
+all_full : (k : ℕ) (xs : List ℕ) → k * 32 ≤ length xs → flat_map piece (first_chunks 32 k xs) ++ pieces (drop (k * 32) xs) ≡ pieces xs
+all_full zero xs h = refl
+all_full (suc k) xs h =
+    let rest = all_full k (drop 32 xs) (omega (arith, length-drop 32 xs)) in
+    let there : drop (k * 32) (drop 32 xs) ≡ drop (suc k * 32) xs = drop-drop (k * 32) 32 xs ∙ ap (λ n. drop n xs) (omega arith) in
+    append_assoc (piece (take 32 xs)) (flat_map piece (first_chunks 32 k (drop 32 xs))) (pieces (drop (suc k * 32) xs))
+    ∙ ap (λ z. piece (take 32 xs) ++ (flat_map piece (first_chunks 32 k (drop 32 xs)) ++ pieces z)) (sym there)
+    ∙ ap (λ z. piece (take 32 xs) ++ z) rest ∙ sym (pieces_step xs (omega arith))
 
--- one full data command more
-module _ (start now : Output) (part : List ℕ) (i : ℕ) (so_far : PutSoFar start part now (drop (i * 32) part)) (fit : HasRoom start (pieces part)) (inside : (i + 1) * 32 ≤ length part) where
-  rest_long : 32 ≤ length (drop (i * 32) part)
-  rest_long = omega (arith, length-drop (i * 32) part)
+pub full_room : (start : Output) (part : List ℕ) (k : ℕ) → k * 32 ≤ length part → HasRoom start (pieces part) → HasRoom start (flat_map piece (first_chunks 32 k part))
+full_room start part k h fit =
+    let whole = ap length (sym (all_full k part h)) ∙ length-append (flat_map piece (first_chunks 32 k part)) (pieces (drop (k * 32) part)) in
+    omega arith
 
-  rest_parts : drop (i * 32) part ≡ take 32 (drop (i * 32) part) ++ drop ((i + 1) * 32) part
-  rest_parts = sym (take-append-drop 32 (drop (i * 32) part)) ∙ ap (λ z. take 32 (drop (i * 32) part) ++ z) (drop-drop 32 (i * 32) part ∙ ap (λ n. drop n part) (omega arith))
-
-  first_size : length (take 32 (drop (i * 32) part)) ≡ min 32 (length (drop (i * 32) part))
-  first_size = length-take 32 (drop (i * 32) part)
-
-  pub full_room : HasRoom now (piece (take 32 (drop (i * 32) part)))
-  full_room = so_far_room start now part (drop (i * 32) part) (take 32 (drop (i * 32) part)) (drop ((i + 1) * 32) part) so_far fit rest_parts first_size (omega (arith, rest_long))
-
-  pub full_more : (next : Output) → HasPut now (piece (take 32 (drop (i * 32) part))) next → PutSoFar start part next (drop ((i + 1) * 32) part)
-  full_more next put = so_far_more start now next part (drop (i * 32) part) (take 32 (drop (i * 32) part)) (drop ((i + 1) * 32) part) so_far fit rest_parts first_size (omega (arith, rest_long)) put
+pub full_so_far : (start now : Output) (part rest : List ℕ) (k : ℕ) → k * 32 ≤ length part → rest ≡ drop (k * 32) part → HasPut start (flat_map piece (first_chunks 32 k part)) now → PutSoFar start part now rest
+full_so_far start now part rest k h e put = (flat_map piece (first_chunks 32 k part), put, ap (λ z. flat_map piece (first_chunks 32 k part) ++ pieces z) e ∙ all_full k part h)
 
 -- the last data command, if there are octets left for it
 pub all_put : (start now : Output) (part rest : List ℕ) → length rest ≡ 0 → PutSoFar start part now rest → HasPut start (pieces part) now
@@ -126,3 +123,16 @@ module _ (start now : Output) (part rest : List ℕ) (so_far : PutSoFar start pa
 
   pub last_put : (next : Output) → HasPut now (piece rest) next → HasPut start (pieces part) next
   last_put next put = all_put start next part [] refl (so_far_more start now next part rest rest [] so_far fit (sym (append-nil rest)) (omega arith) some put)
+
+-- one full data command more
+module _ (ps : List (List ℕ)) (i : ℕ) (inside : i < length ps) where
+  pub commands_more : flat_map piece (take (i + 1) ps) ≡ flat_map piece (take i ps) ++ piece (get_or ps i [])
+  commands_more =
+      ap (λ n. flat_map piece (take n ps)) (add-one i) ∙ ap (flat_map piece) (take-suc ps i [] inside)
+      ∙ flat_map-append piece (take i ps) (get_or ps i [] ∷ []) ∙ ap (λ z. flat_map piece (take i ps) ++ z) (append-nil (piece (get_or ps i [])))
+
+  pub commands_within : length (flat_map piece (take (i + 1) ps)) ≤ length (flat_map piece ps)
+  commands_within =
+      let whole = ap (λ z. length (flat_map piece z)) (sym (take-append-drop (i + 1) ps)) ∙ ap length (flat_map-append piece (take (i + 1) ps) (drop (i + 1) ps))
+      ∙ length-append (flat_map piece (take (i + 1) ps)) (flat_map piece (drop (i + 1) ps)) in
+      omega arith

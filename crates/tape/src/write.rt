@@ -1,5 +1,6 @@
 // Writing one warning into lent memory.
 ghost use Rattle.std.specs.Prelude.{◌≡◌, ℕ, ◌+◌, ◌-◌, ◌≤◌, true, ◌++◌, ◌∷◌, length, is_ok, IfOk, if◌then◌else◌};
+ghost use Rattle.std.specs.List.{flat_map};
 ghost use Rattle.std.specs.Option.{unwrap_or};
 ghost use Rattle.octets.specs.Octets.{two, written};
 ghost use Rattle.warning.specs.Meaning.{said};
@@ -14,6 +15,7 @@ ghost use Rattle.tape.specs.Promises.{Longest};
 use crate::fault::*;
 use crate::numbers::*;
 use crate::output::Output;
+use octets::put;
 use warning::numbers::*;
 use warning::{Outline, Pair, Warning, WarningFault};
 
@@ -72,16 +74,32 @@ fn area_head(area: Option<usize>) -> [u8; 3]
     [u8::from(area.is_some()), a1, a0]
 }
 
-impl Output<'_> {
-    // A data command with all its octets. Its width is known, so that it takes no call to copy them.
-    fn put_full_piece(&mut self, octets: &[u8; DATA_OCTETS])
-        requires { HasRoom self.old (piece octets.now) }
-        ensures { HasPut self.old (piece octets.now) self.new }
-    {
-        self.put(&[DATA, DATA_OCTETS as u8]);
-        self.put(octets);
-    }
+// Writes a data command that has all its octets, and answers the place after
+// it. Its width is known, so that it takes no call to copy it.
+fn put_full_piece(memory: &mut [u8], at: usize, octets: &[u8; DATA_OCTETS]) -> usize
+    requires { at + length (piece octets.now) ≤ length memory.old }
+    ensures next { result ≡ at + length (piece octets.now) }
+    ensures after { memory.new ≡ written at (piece octets.now) memory.old }
+{
+    let next = put(memory, at, &[DATA, octets.len() as u8]);
+    put(memory, next, octets)
+}
 
+// The same for several, one after another.
+// Kept: memory and place apart, which a loop holds without a write to memory for each.
+fn put_full_pieces(memory: &mut [u8], at: usize, pieces: &[[u8; DATA_OCTETS]]) -> usize
+    requires { at + length (flat_map piece pieces.now) ≤ length memory.old }
+    ensures next { result ≡ at + length (flat_map piece pieces.now) }
+    ensures after { memory.new ≡ written at (flat_map piece pieces.now) memory.old }
+{
+    let mut next = at;
+    for octets in pieces {
+        next = put_full_piece(memory, next, octets);
+    }
+    next
+}
+
+impl Output<'_> {
     // A data command, with zeros past its octets.
     fn put_piece(&mut self, octets: &[u8])
         requires few { length octets.now ≤ data_octets }
@@ -100,9 +118,7 @@ impl Output<'_> {
         ensures { HasPut self.old (pieces part.now) self.new }
     {
         let (full, last) = part.as_chunks::<DATA_OCTETS>();
-        for piece in full {
-            self.put_full_piece(piece);
-        }
+        self.at = put_full_pieces(self.memory, self.at, full);
         if !last.is_empty() {
             self.put_piece(last);
         }
