@@ -99,7 +99,7 @@ fn part<S: Sink>(cursor: &mut Cursor<'_>, count: usize, sink: &mut S) -> Result<
     // a cursor of its own needs no write to memory for each operand
     let mut here = cursor.fork();
     // Kept: by number, since there are no octets to cut into pieces before they are read.
-    for command in 0..count / DATA_OCTETS {
+    for _ in 0..count / DATA_OCTETS {
         sink.take(here.data(DATA_OCTETS)?);
     }
     let last = count % DATA_OCTETS;
