@@ -145,7 +145,7 @@ impl Store for Pool {
         Ok(())
     }
 
-    // Kept: `drop_slot` and `is_held` are two lines over what this store has of its own, as in the berths.
+    // Kept: `drop_slot`, `drop_all`, `units_of` and `is_held` are a few lines over what this store has of its own, as in the berths.
     fn drop_slot(&mut self, slot: usize) -> Result<(), StoreFault> {
         check_slot(SLOTS, slot)?;
         self.clear(slot);
