@@ -126,13 +126,13 @@ module _ (start now : Output) (part rest : List ℕ) (so_far : PutSoFar start pa
 
 -- one full data command more
 module _ (ps : List (List ℕ)) (i : ℕ) (inside : i < length ps) where
-  pub commands_more : flat_map piece (take (i + 1) ps) ≡ flat_map piece (take i ps) ++ piece (get_or ps i [])
-  commands_more =
+  pub full_pieces_more : flat_map piece (take (i + 1) ps) ≡ flat_map piece (take i ps) ++ piece (get_or ps i [])
+  full_pieces_more =
       ap (λ n. flat_map piece (take n ps)) (add-one i) ∙ ap (flat_map piece) (take-suc ps i [] inside)
       ∙ flat_map-append piece (take i ps) (get_or ps i [] ∷ []) ∙ ap (λ z. flat_map piece (take i ps) ++ z) (append-nil (piece (get_or ps i [])))
 
-  pub commands_within : length (flat_map piece (take (i + 1) ps)) ≤ length (flat_map piece ps)
-  commands_within =
+  pub full_pieces_within : length (flat_map piece (take (i + 1) ps)) ≤ length (flat_map piece ps)
+  full_pieces_within =
       let whole = ap (λ z. length (flat_map piece z)) (sym (take-append-drop (i + 1) ps)) ∙ ap length (flat_map-append piece (take (i + 1) ps) (drop (i + 1) ps))
       ∙ length-append (flat_map piece (take (i + 1) ps)) (flat_map piece (drop (i + 1) ps)) in
       omega arith

@@ -11,14 +11,14 @@ pub take-requires : goal.take-requires
 take-requires g c =
     let h = c.loop.invariant in
     let left = c.args.count - c.loop.counter * 32 in
-    let long = data_long 32 _ _ _ (omega arith) c.in_ok-data.ensures in
+    let long = data_long _ _ _ _ (omega arith) c.in_ok-data.ensures in
     let all = subst (λ n. g.S.Sink.fits c.args.sink.now n) (sym h.counted) c.requires in
     let room = g.met.S.Sink.fits_after c.args.sink.now c.loop.sink h.handed left all h.taken in
     g.met.S.Sink.fits_less c.loop.sink (length c.in_ok-data.field-0.now) left (omega arith) room
 
 pub loop-preserved : goal.loop-preserved
 loop-preserved g c =
-    handing_more _ c.args.count c.fork-here.result _ _ _ 32 _ _ c.in_ok-data.field-0.now (omega arith) (omega arith) (omega arith) c.in_ok-data.ensures
+    handing_more _ c.args.count c.fork-here.result _ _ _ _ _ _ c.in_ok-data.field-0.now (omega arith) (omega arith) (omega arith) c.in_ok-data.ensures
     (λ xs few taken.
     let room = g.met.S.Sink.fits_less c.args.sink.now (length xs + length c.in_ok-data.field-0.now) c.args.count few c.requires in
     g.met.S.Sink.takes_more c.args.sink.now c.loop.sink _ xs c.in_ok-data.field-0.now room taken c.take.ensures)
@@ -28,7 +28,7 @@ pub returns-in_err-data : goal.returns-in_err-data
 returns-in_err-data g c =
     let p = err_from_is_err_and c.from_residual.result c.from_residual.ensures.1 in
     rw (p.1, p.2)
-    (ap (part c.args.count) (sym c.fork-here.ensures) ∙ handing_err _ c.args.count c.fork-here.result _ 32 _ _ (omega arith) (omega arith) c.in_err-data.ensures c.loop.invariant)
+    (ap (part c.args.count) (sym c.fork-here.ensures) ∙ handing_err _ c.args.count c.fork-here.result _ _ _ _ (omega arith) (omega arith) c.in_err-data.ensures c.loop.invariant)
 
 pub take-requires-then-last-gt0 : goal.take-requires-then-last-gt0
 take-requires-then-last-gt0 g c =
